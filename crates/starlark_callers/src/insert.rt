@@ -5,6 +5,8 @@ ghost use Rattle.std.specs.Str.{bytes_eq};
 ghost use Rattle.std.specs.String.{string_bytes, string_eq};
 ghost use Rattle.std.specs.declared.alloc.Global.{Global};
 ghost use Rattle.std.specs.declared.string.String.{String};
+ghost use Rattle.starlark_hash.specs.Entries.{match_of};
+ghost use Rattle.starlark_small.specs.Map.{own_hashed};
 ghost use Rattle.starlark_small.specs.Lookup.{AreOwn, contains, get};
 
 use starlark_hash::{Hashed, NoRoom};
@@ -98,6 +100,23 @@ pub fn put<K: Eq + Hash + Drop, V: Drop>(
         }
     }
     Ok(())
+}
+
+/// Puts a value at a key that is lacking, with no look-up before, and answers its index.
+pub fn record_unseen<K: Eq + Hash, V>(
+    map: &mut SmallMap<K, V>,
+    key: K,
+    value: V,
+) -> Result<usize, NoRoom<(K, V)>>
+    requires { match_of K.eq map.old.entries (own_hashed K.hash_input key) ≡ None }
+    ensures was { get K.eq K.hash_input map.old key ≡ None }
+    ensures last { IfOk result (λ i. i + 1 ≡ length map.new.entries) }
+    ensures here { OnOk result (get K.eq K.hash_input map.new key ≡ Some value) }
+    ensures others { OnOk result ((other : K) → K.eq key other ≡ false → get K.eq K.hash_input map.new other ≡ get K.eq K.hash_input map.old other) }
+    ensures own { AreOwn K.hash_input map.old → AreOwn K.hash_input map.new }
+    ensures unchanged { OnErr result ((other : K) → get K.eq K.hash_input map.new other ≡ get K.eq K.hash_input map.old other) }
+{
+    map.push_own(key, value)
 }
 
 /// Puts a value at the string of a text. Strings with other bytes keep what they had.

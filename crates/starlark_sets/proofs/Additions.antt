@@ -4,6 +4,7 @@ use Rattle.starlark_hash.specs.declared.hashed.Hashed.{Hashed}
 use Rattle.starlark_hash.specs.declared.no_room.NoRoom.{NoRoom}
 use Rattle.starlark_hash.specs.Entries.{match_of, set_value_at}
 use Rattle.starlark_small.specs.Insert.{Inserts, IsInserted, IsRefused, LeavesMemory}
+use Rattle.starlark_small.proofs.CallerInsert.{inserts-err, inserts-ok}
 use Rattle.starlark_sets.specs.Insert.{Adds, new_or_back}
 use Rattle.starlark_sets.specs.Set.{Set, Elements}
 
@@ -34,8 +35,8 @@ module _ {T B : Type 0} (eq : T → T → Bool) (element : Hashed T) {back : B} 
   -- a set answers what its map answered
   pub inserts-answered : (r : Result (Option (Unit {0})) (NoRoom (B × Unit {0}))) → Inserts eq element tt (back, tt) (λ was. was) before after r
       → Inserts eq element tt back (λ was. not (is_some was)) before after (new_or_back r)
-  inserts-answered (Ok v) is = assumption (is, ap (λ o. not (is_some o)) is.old, ap (λ o. not (is_some o)) is.was)
-  inserts-answered (Err e) is = assumption (is, ap (λ (p : B × Unit {0}). p.0) is.handed_back)
+  inserts-answered (Ok v) is = inserts-ok eq element tt before after v (not (is_some v)) (ap (λ o. not (is_some o)) is.old) is
+  inserts-answered (Err e) is = inserts-err eq element tt before after e (record { 0 = e.0.0 }) (ap (λ (p : B × Unit {0}). p.0) is.handed_back) is
 
   -- and that is what becomes of the whole set
   pub adds-inserted : {A : Type 0} {tells : Option (Unit {0}) → A} (r : Result A (NoRoom B)) → Inserts eq element tt back tells before after r → Adds eq before element r after

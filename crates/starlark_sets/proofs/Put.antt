@@ -1,5 +1,5 @@
--- What look-ups find once an element was put into a set: one that no look-up precedes, one that is made for a query, and what is
--- answered of one that is shown or tried.
+-- What look-ups find once an element was put into a set that is made for a query, and what is answered of one that is shown or
+-- tried.
 use Rattle.starlark_hash.proofs.Common.{◌≡◌, ℕ, Bool, true, false, List, [], ◌∷◌, ◌++◌, length, Option, Some, None, Result, Ok, Err, OnOk, OnErr, IfOk, IfErr, IfSome, MatchOption, MatchResult, IsErr, IsTrue, is_some, slice_get, refl, subst, sym, ap, ◌∙◌, arith, IsEquivalence, HashWrites, option_map, length_push, same_Some}
 use Rattle.std.proofs.Common.{Bor}
 use Rattle.std.specs.Option.{unwrap_or}
@@ -11,35 +11,15 @@ use Rattle.starlark_hash.specs.HashValue.{hashed, hash_of, key_of}
 use Rattle.starlark_hash.specs.Entries.{entry_key, match_of, position_of, value_at}
 use Rattle.starlark_hash.specs.Lookup.{found, Writes}
 use Rattle.starlark_hash.specs.Insert.{insert_entry}
-use Rattle.starlark_small.specs.Insert.{IsInserted, IsRefused, PutsLast}
+use Rattle.starlark_small.specs.Insert.{IsInserted, IsRefused}
 use Rattle.starlark_small.proofs.CallerLookup.{is_some-found, none_found, position_of-match}
 use Rattle.starlark_small.proofs.CallerOwn.{own-inserted, own-same}
 use Rattle.starlark_small.proofs.CallerInsert.{writes-inserted}
-use Rattle.starlark_sets.specs.Insert.{AddsNew, PutsElementFor, ShowsPut, AddsAt, AddsFor}
+use Rattle.starlark_sets.specs.Insert.{PutsElementFor, ShowsPut, AddsAt, AddsFor}
 use Rattle.starlark_sets.specs.TryInsert.{AnswersTry, IsRefusal, ShowsEqual, Tries, is_occupied}
 use Rattle.starlark_sets.specs.Set.{Set, element_at}
 use Rattle.starlark_sets.specs.declared.ordered_set.try_insert.TryInsertError.{TryInsertError}
 use Rattle.starlark_sets.proofs.Callers.{key_stands}
-
-module _ {T : Type 0} (eq : T → T → Bool) (laws : IsEquivalence eq) (old new : Set T) (element : Hashed T) where
-  -- an element that was lacking went last
-  put_last : match_of eq old.entries element ≡ None → new.entries ≡ old.entries ++ (element, tt) ∷ [] → new.entries ≡ insert_entry eq old.entries element tt
-  put_last none is = rw none is
-
-  -- an element that no look-up precedes
-  pub adds-last : {A B : Type 0} {back : B} (r : Result A (NoRoom B)) → match_of eq old.entries element ≡ None → PutsLast element tt back old new r → AddsNew eq element old r new
-  adds-last (Ok a) none puts =
-      let entries = put_last none puts.inserted.entries in
-      record {
-        lacking = ap is_some (none_found (eq (key_of element)) (hash_of element) old.entries none);
-        updates = writes-inserted eq laws old.entries new.entries element tt entries;
-        count = omega (arith, ap length puts.inserted.entries, length_push old.entries (element, tt));
-        own = λ feeds under own. own-inserted feeds eq old.entries new.entries element tt entries under own;
-        unchanged = tt;
-      }
-  adds-last (Err e) none puts =
-      let own = λ (feeds : T → HashWrites). own-same feeds old.entries new.entries puts.refused.entries in
-      record { lacking = ap is_some (none_found (eq (key_of element)) (hash_of element) old.entries none); updates = tt; count = tt; own = λ feeds under. own feeds; unchanged = puts.refused.entries }
 
 -- two `()` are one
 unit_there : (o : Option (Unit {0})) → is_some o ≡ true → o ≡ Some tt
@@ -54,7 +34,7 @@ module _ {Q T : Type 0} (eq : T → T → Bool) (laws : IsEquivalence eq) (equiv
   hash = own_hash feeds query
 
   put_for : (e : T) → test e ≡ true → position_of hash test old.entries ≡ None → new.entries ≡ old.entries ++ (hashed hash e, tt) ∷ [] → new.entries ≡ insert_entry eq old.entries (hashed hash e) tt
-  put_for e does none is = put_last eq laws old new (hashed hash e) (sym (position_of-match eq test one (hashed hash e) does old.entries) ∙ none) is
+  put_for e does none is = rw (sym (position_of-match eq test one (hashed hash e) does old.entries) ∙ none) is
 
   written_for : (e : T) → test e ≡ true → new.entries ≡ insert_entry eq old.entries (hashed hash e) tt → Writes eq test hash old.entries new.entries (Some tt)
   unfolding found

@@ -11,7 +11,7 @@ use Rattle.std.specs.Hash.{HashWrites}
 use Rattle.std.specs.Option.{option_map, unwrap_or}
 use Rattle.starlark_hash.specs.Hasher.{own_hash}
 use Rattle.starlark_hash.specs.declared.no_room.NoRoom.{NoRoom}
-use Rattle.starlark_hash.specs.Lookup.{found, found_key, Writes}
+use Rattle.starlark_hash.specs.Lookup.{found, found_key}
 use Rattle.starlark_small.specs.Lookup.{AreOwn, UpdatesBy, contains}
 
 module _ {T : Type 0} where
@@ -55,16 +55,6 @@ module _ {T B : Type 0} (eq : T → T → Bool) where
     pub handed_back : IfErr r (λ refused. refused.0 ≡ back)
 
 module _ {T : Type 0} (eq : T → T → Bool) where
-  -- this element, which was lacking, is found now, and of all others what was found before; or it was refused, and the elements
-  -- stay
-  pub record AddsNew {A E : Type 0} (element : Hashed T) (before : Set T) (r : Result A E) (after : Set T) : Type 0 where
-    pub lacking : is_some (found (eq (key_of element)) (hash_of element) before.entries) ≡ false
-    pub updates : OnOk r (Writes eq (eq (key_of element)) (hash_of element) before.entries after.entries (Some tt))
-    pub count : OnOk r (length after.entries ≡ length before.entries + 1)
-    -- elements under their own hashes stay so, done or refused, where this one is under its own
-    pub own : (feeds : T → HashWrites) → hash_of element ≡ own_hash feeds (key_of element) → AreOwn feeds before → AreOwn feeds after
-    pub unchanged : OnErr r (after.entries ≡ before.entries)
-
   -- the element for this query was put last under the query's own hash where it was lacking, and else nothing changes; only one
   -- that is lacking is refused
   pub record PutsElementFor {Q E : Type 0} (equivalent : Q → T → Bool) (feeds : Q → HashWrites) (query : Q) (before : Set T) (r : Result (Bor T) E) (after : Set T) : Type 0 where

@@ -16,7 +16,7 @@ ghost use Rattle.starlark_small.specs.Map.{own_hashed};
 ghost use Rattle.starlark_sets.specs.Collect.{IsSetOf, TakesInEach};
 ghost use Rattle.starlark_hash.specs.Unit.{IsUnitClone};
 ghost use Rattle.starlark_small.specs.Insert.{Inserts, PutsLast};
-ghost use Rattle.starlark_sets.specs.Insert.{Adds, AddsNew};
+ghost use Rattle.starlark_sets.specs.Insert.{Adds};
 ghost use Rattle.starlark_small.specs.Sort.{SortsByKey, Turns};
 ghost use Rattle.starlark_small.specs.Remove.{Clears};
 
@@ -156,7 +156,8 @@ impl<T: Eq> OrderedSet<T> {
         T: Hash,
         requires { match_of T.eq self.old.entries (own_hashed T.hash_input element) ≡ None }
         ensures puts_last { PutsLast (own_hashed T.hash_input element) tt element self.old self.new result }
-        ensures adds { AddsNew T.eq (own_hashed T.hash_input element) self.old result self.new }
+        ensures inserts { Inserts T.eq (own_hashed T.hash_input element) tt element (λ _. tt) self.old self.new result }
+        ensures lacking { found (T.eq element) (own_hash T.hash_input element) self.old.entries ≡ None }
     {
         self.0.insert_unique_unchecked(element)
     }

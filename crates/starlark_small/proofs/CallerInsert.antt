@@ -1,7 +1,7 @@
 -- What an insertion leaves under its key, at all other keys, of the length and of what the values weigh together; and what its word
--- is made of, where it was done, where it was refused, and where its answer is handed on.
+-- is made of, where it was done, where a new key was put last or refused, and where its answer is handed on.
 use Rattle.starlark_hash.specs.Hasher.{own_hash}
-use Rattle.starlark_hash.proofs.Common.{HashWrites, common_steps, ◌≡◌, ◌+◌, Bool, List, [], ◌∷◌, ◌++◌, length, map, Some, None, is_some, refl, arith, Ok, Err, ℕ, zero, suc, ◌<◌, ◌≤◌, Option, slice_get, if◌then◌else◌, option_map, IsEquivalence, map-append}
+use Rattle.starlark_hash.proofs.Common.{HashWrites, common_steps, ◌≡◌, ◌+◌, ◌||◌, ◌∙◌, ap, nat_lt, Result, IfOk, Bool, List, [], ◌∷◌, ◌++◌, length, map, Some, None, is_some, refl, arith, Ok, Err, ℕ, zero, suc, ◌<◌, ◌≤◌, Option, slice_get, if◌then◌else◌, option_map, IsEquivalence, map-append}
 use Rattle.starlark_hash.specs.declared.hashed.Hashed.{Hashed}
 use Rattle.starlark_hash.specs.HashValue.{hashed, key_of, hash_of}
 use Rattle.starlark_hash.specs.Entries.{Entry, set_value_at, match_of, value_at, entry_value}
@@ -14,7 +14,9 @@ use Rattle.starlark_small.specs.Map.{Map}
 use Rattle.std.proofs.lemmas.List.Sums.{sum_by-cons, sum_by_push}
 use Rattle.starlark_hash.proofs.PositionLemmas.{position-within}
 use Rattle.starlark_hash.specs.declared.no_room.NoRoom.{NoRoom}
-use Rattle.starlark_small.specs.Insert.{IsRefused, LeavesMemory, Inserts}
+use Rattle.starlark_small.specs.Index.{unindexed}
+use Rattle.starlark_small.specs.Insert.{LeavesMemory, Inserts, PutsLast}
+use Rattle.starlark_small.proofs.Inserted.{LeavesMemory-inserted, LeavesMemory-refused}
 use Rattle.starlark_small.proofs.CallerOwn.{own-inserted, own-same}
 
 module _ {K V : Type 0} (eq : K → K → Bool) (laws : IsEquivalence eq) where
@@ -64,11 +66,12 @@ module _ {K V : Type 0} (measure : V → ℕ) where
   unfolding found
   total-put eq old new key value put = total-inserted eq old new key value put
 
-module _ {K V B : Type 0} (eq : K → K → Bool) (key : Hashed K) (value : V) (back : B) (before after : Map K V) where
-  pub inserts-done : IsEquivalence eq → (v : Option V) → v ≡ value_at before.entries (match_of eq before.entries key) → after.entries ≡ insert_entry eq before.entries key value
-      → LeavesMemory eq before key after → Inserts eq key value back (λ was. was) before after (Ok v)
-  inserts-done laws v is put left = assumption (
-    found_is (eq (key_of key)) (hash_of key) before.entries v is,
+module _ {K V A B : Type 0} (eq : K → K → Bool) (laws : IsEquivalence eq) (key : Hashed K) (value : V) (back : B) (tells : Option V → A) (before after : Map K V) where
+  -- by the list that it leaves, where it was done
+  pub inserts-done : (a : A) → a ≡ tells (value_at before.entries (match_of eq before.entries key)) → after.entries ≡ insert_entry eq before.entries key value
+      → LeavesMemory eq before key after → Inserts eq key value back tells before after (Ok a)
+  inserts-done a is put left = assumption (
+    is ∙ ap tells (found_is (eq (key_of key)) (hash_of key) before.entries _ refl),
     writes-inserted eq laws before.entries after.entries key value put,
     entries-pushed eq before after key value put,
     keys-put eq before after key value put,
@@ -77,17 +80,26 @@ module _ {K V B : Type 0} (eq : K → K → Bool) (key : Hashed K) (value : V) (
     λ (feeds : K → HashWrites). own-inserted feeds eq before.entries after.entries key value put,
   )
 
-  pub inserts-refused : (e : NoRoom B) → match_of eq before.entries key ≡ None → before.room ≡ 0 → e.0 ≡ back → IsRefused before after
-      → LeavesMemory eq before key after → Inserts eq key value back (λ was. was) before after (Err e)
-  inserts-refused e absent full back_is refused left =
-      assumption (λ (feeds : K → HashWrites) (under : hash_of key ≡ own_hash feeds (key_of key)). own-same feeds before.entries after.entries refused.entries, none_found (eq (key_of key)) (hash_of key) before.entries absent)
+  -- a key that is new, put last or refused
+  pub inserts-last : (r : Result A (NoRoom B)) → match_of eq before.entries key ≡ None → before.indexed ≡ (before.indexed || nat_lt unindexed (length before.entries))
+      → IfOk r (λ a. a ≡ tells None) → PutsLast key value back before after r → Inserts eq key value back tells before after r
+  inserts-last (Ok a) lacking short is puts =
+      let put : after.entries ≡ insert_entry eq before.entries key value = rw lacking puts.inserted.entries in
+      inserts-done a (rw lacking is) put (LeavesMemory-inserted eq before key value after lacking puts.inserted)
+  inserts-last (Err e) lacking short is puts = assumption (
+    λ (feeds : K → HashWrites) (under : hash_of key ≡ own_hash feeds (key_of key)). own-same feeds before.entries after.entries puts.refused.entries,
+    none_found (eq (key_of key)) (hash_of key) before.entries lacking,
+    LeavesMemory-refused eq before key short after lacking puts.full puts.refused,
+    puts.refused,
+    puts,
+  )
 
-module _ {K V B C : Type 0} (eq : K → K → Bool) (key : Hashed K) (value : V) {back : B} {other : C} (before after : Map K V) where
-  -- the same answer, where what comes back is another thing
-  pub inserts-ok : (v : Option V) → Inserts eq key value back (λ was. was) before after (Ok v) → Inserts eq key value other (λ was. was) before after (Ok v)
-  inserts-ok v is = assumption is
+module _ {K V A B C D : Type 0} (eq : K → K → Bool) (key : Hashed K) (value : V) {back : B} {other : D} {tells : Option V → A} {told : Option V → C} (before after : Map K V) where
+  -- the same insertion, where another thing is answered or comes back
+  pub inserts-ok : (a : A) (b : C) → b ≡ told (value_at before.entries (match_of eq before.entries key)) → Inserts eq key value back tells before after (Ok a) → Inserts eq key value other told before after (Ok b)
+  inserts-ok a b old is = assumption (is, old, old ∙ ap told (found_is (eq (key_of key)) (hash_of key) before.entries _ refl))
 
-  pub inserts-err : (e : NoRoom B) (d : NoRoom C) → d.0 ≡ other → Inserts eq key value back (λ was. was) before after (Err e) → Inserts eq key value other (λ was. was) before after (Err d)
+  pub inserts-err : (e : NoRoom B) (d : NoRoom D) → d.0 ≡ other → Inserts eq key value back tells before after (Err e) → Inserts eq key value other told before after (Err d)
   inserts-err e d back_is is = assumption (is, back_is)
 
 -- what an insertion's answer that is handed on wants

@@ -1,17 +1,16 @@
 -- A hash that a look at the index shows to be new: no entry is under it, and one goes last without growth.
-use Rattle.starlark_hash.proofs.Common.{common_steps, ◌≡◌, ◌≢◌, ℕ, ◌-◌, Bool, [], ◌∷◌, ◌++◌, length, Option, Some, None, Ok, refl, sym, ap, subst, ◌∙◌, arith, IsEquivalence, option_map_or, nat_tests, get_or-map, length-map, length_push, All}
+use Rattle.starlark_hash.proofs.Common.{common_steps, ◌≡◌, ◌≢◌, ℕ, ◌-◌, Bool, [], ◌∷◌, ◌++◌, length, Option, Some, None, Ok, refl, sym, subst, arith, IsEquivalence, nat_tests, get_or-map, length-map, length_push, All}
 use Rattle.starlark_small.proofs.CallerLookup.{none_among}
 use Rattle.starlark_hash.specs.HashValue.{hash_of, key_of}
 use Rattle.starlark_hash.specs.declared.hashed.Hashed.{Hashed}
-use Rattle.starlark_hash.specs.Entries.{Entry, entry_hash, match_of, set_value_at, stands_under, value_at}
+use Rattle.starlark_hash.specs.Entries.{Entry, entry_hash, match_of, stands_under}
 use Rattle.starlark_hash.proofs.EntryLemmas.{IsSingle-push}
 use Rattle.starlark_small.specs.Hashes.{Hashes, hash_under}
 use Rattle.starlark_small.specs.IndexCalls.{IsNotedIn}
 use Rattle.starlark_small.specs.Index.{IsIndexed, IsSound, map_of}
 use Rattle.starlark_small.specs.Insert.{IsInserted, Inserts}
 use Rattle.starlark_small.specs.Map.{Map}
-use Rattle.starlark_small.proofs.CallerInsert.{inserts-done}
-use Rattle.starlark_small.proofs.Inserted.{LeavesMemory-inserted}
+use Rattle.starlark_small.proofs.CallerInsert.{inserts-last}
 use Rattle.starlark_small.proofs.Indexed.{IsIndexed-noted}
 use Rattle.starlark_vecmap.specs.EntryList.{EntryList, with_entries}
 
@@ -37,7 +36,4 @@ module _ {K V : Type 0} (eq : K → K → Bool) (laws : IsEquivalence eq) (list 
   inserts_at_once old view =
       let put : IsInserted (map_of list before) key value (map_of new after) = rw (is, noting.there, noting.noted) (grind (arith, common_steps, nat_tests, noting.spare, noting.room, length_push list.entries (key, value))) in
       subst (λ m. Inserts {B = Hashed K × V} eq key value (key, value) (λ was. was) m (map_of new after) (Ok None)) view
-      (inserts-done eq key value (key, value) (map_of list before) (map_of new after) laws None
-      (sym (ap (value_at list.entries) absent))
-      (put.entries ∙ sym (ap (λ o. option_map_or (λ i. set_value_at list.entries i value) o (list.entries ++ (key, value) ∷ [])) absent))
-      (LeavesMemory-inserted eq (map_of list before) key value (map_of new after) absent put))
+      (inserts-last eq laws key value (key, value) (λ was. was) (map_of list before) (map_of new after) (Ok None) absent (rw noting.there refl) refl (record { inserted = put; full = tt; refused = tt; handed_back = tt }))

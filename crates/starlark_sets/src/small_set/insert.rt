@@ -1,7 +1,10 @@
 //! What puts elements into a `SmallSet`.
 ghost use Rattle.std.specs.Prelude.{◌≡◌, not, OnOk, Some, None, is_some};
 ghost use Rattle.starlark_small.specs.Map.{own_hashed};
-ghost use Rattle.starlark_sets.specs.Insert.{Adds, new_or_back, AddsNew};
+ghost use Rattle.starlark_sets.specs.Insert.{Adds, new_or_back};
+ghost use Rattle.starlark_hash.specs.Hasher.{own_hash};
+ghost use Rattle.starlark_hash.specs.HashValue.{hash_of, key_of};
+ghost use Rattle.starlark_hash.specs.Lookup.{found};
 ghost use Rattle.starlark_small.specs.Lookup.{Updates};
 ghost use Rattle.starlark_hash.specs.Entries.{match_of};
 ghost use Rattle.starlark_small.specs.Insert.{Inserts, PutsLast};
@@ -40,12 +43,14 @@ impl<T: Eq> SmallSet<T> {
     }
 
     /// Inserts a new element under its own hash, as `insert_hashed_unique_unchecked` does under one that is brought.
+    #[tactic(auto, using(starlark_small::proofs::CallerInsert::handed_on))]
     pub fn insert_unique_unchecked(&mut self, key: T) -> Result<(), NoRoom<T>>
     where
         T: Hash,
         requires { match_of T.eq self.old.entries (own_hashed T.hash_input key) ≡ None }
         ensures puts_last { PutsLast (own_hashed T.hash_input key) tt key self.old self.new result }
-        ensures adds { AddsNew T.eq (own_hashed T.hash_input key) self.old result self.new }
+        ensures inserts { Inserts T.eq (own_hashed T.hash_input key) tt key (λ _. tt) self.old self.new result }
+        ensures lacking { found (T.eq key) (own_hash T.hash_input key) self.old.entries ≡ None }
     {
         match self.map.push_own(key, ()) {
             Ok(_index) => Ok(()),
@@ -55,13 +60,15 @@ impl<T: Eq> SmallSet<T> {
 
     /// Inserts an element that is new under this hash, which is required and not looked for. It goes last. It is
     /// refused where there is no room and no memory is found: then it comes back, and elements and index stay.
+    #[tactic(auto, using(starlark_small::proofs::CallerInsert::handed_on))]
     pub fn insert_hashed_unique_unchecked(
         &mut self,
         key: Hashed<T>,
     ) -> Result<(), NoRoom<Hashed<T>>>
         requires { match_of T.eq self.old.entries key ≡ None }
         ensures puts_last { PutsLast key tt key self.old self.new result }
-        ensures adds { AddsNew T.eq key self.old result self.new }
+        ensures inserts { Inserts T.eq key tt key (λ _. tt) self.old self.new result }
+        ensures lacking { found (T.eq (key_of key)) (hash_of key) self.old.entries ≡ None }
     {
         match self.map.push(key, ()) {
             Ok(_index) => Ok(()),

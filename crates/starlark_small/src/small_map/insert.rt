@@ -5,7 +5,9 @@ ghost use Rattle.starlark_small.specs.Map.{own_hashed};
 ghost use Rattle.std.specs.Borrow.{sem};
 ghost use Rattle.std.specs.Option.{option_map};
 ghost use Rattle.starlark_hash.specs.Entries.{match_of, pair_of};
-ghost use Rattle.starlark_hash.specs.HashValue.{key_of};
+ghost use Rattle.starlark_hash.specs.Hasher.{own_hash};
+ghost use Rattle.starlark_hash.specs.HashValue.{hash_of, key_of};
+ghost use Rattle.starlark_hash.specs.Lookup.{found};
 ghost use Rattle.starlark_small.specs.Lend.{lends_inserted, lends_value, unhashed};
 
 use super::SmallMap;
@@ -56,6 +58,7 @@ impl<K: Eq, V> SmallMap<K, V> {
 
     // The same by a search. It is a call, so that what is inlined is the look alone.
     #[inline(never)]
+    #[tactic(auto, using(crate::proofs::CallerInsert::handed_on))]
     fn insert_by_search(
         &mut self,
         key: Hashed<K>,
@@ -116,12 +119,15 @@ impl<K: Eq, V> SmallMap<K, V> {
     /// Puts a new key last under its own hash, and answers its index. It is refused where there is no room and no
     /// memory is found: then it comes back, and entries and index stay. Rust's crate has no such
     /// call: `insert_unique_unchecked` lends the entry, this one counts to it.
+    #[tactic(auto, using(crate::proofs::CallerInsert::handed_on))]
     pub fn push_own(&mut self, key: K, value: V) -> Result<usize, NoRoom<(K, V)>>
     where
         K: Hash,
         requires { match_of K.eq self.old.entries (own_hashed K.hash_input key) ≡ None }
         ensures index { IfOk result (λ i. i ≡ length self.old.entries) }
         ensures puts_last { PutsLast (own_hashed K.hash_input key) value (key, value) self.old self.new result }
+        ensures inserts { Inserts K.eq (own_hashed K.hash_input key) value (key, value) (λ _. length self.old.entries) self.old self.new result }
+        ensures lacking { found (K.eq key) (own_hash K.hash_input key) self.old.entries ≡ None }
     {
         match self.push(Hashed::new(key), value) {
             Ok(index) => Ok(index),
@@ -134,7 +140,10 @@ impl<K: Eq, V> SmallMap<K, V> {
         requires { match_of K.eq self.old.entries key ≡ None }
         ensures index { IfOk result (λ i. i ≡ length self.old.entries) }
         ensures puts_last { PutsLast key value (key, value) self.old self.new result }
+        ensures inserts { Inserts K.eq key value (key, value) (λ _. length self.old.entries) self.old self.new result }
+        ensures lacking { found (K.eq (key_of key)) (hash_of key) self.old.entries ≡ None }
     {
+        prove!(self.index().is_some() || self.len() <= UNINDEXED);
         // memory for the list and for the index is had before the entry is stored
         if let Err(_) = self.reserve(1) {
             return Err(NoRoom((key, value)));

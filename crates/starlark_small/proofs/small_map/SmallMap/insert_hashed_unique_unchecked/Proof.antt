@@ -1,7 +1,9 @@
 -- `insert_hashed_unique_unchecked` meets its contract, at any key and value types: the map is lent to the call that puts the entry at the end and comes back, and is then lent for good to the call that shows it. Assumes `Logic`.
 use Rattle.starlark_columns.proofs.Walking.{◌≡◌, refl, sym, inl, inr, ℕ, ◌<◌, ◌^◌, suc-ne-zero, [], ◌∷◌, length, lit<, Args, a_type, dcons, dnil, named, w64, inst_fn, Val, vint, vcons, vnil, of_list, id⊢, ex_e, snd∗, Lft, GName, Share, ftrue, flft, fres, Env, sem, live, vrt, in_variant, by_variants, ◌⊑◌, ⊑_trans, meet_⊑_right, fact, tables, ‵, raw, ◌⊛◌, some, given, later, at_ret, ◌$◌, ◌∵◌, !, qed, by, move, drop, use1, use2, use3, split, split3, join, pick, learn, fsplit, fjoin, await, rewrite, group, whole, agg, stop, fld, addr, lit, of_opd, and_then, no_more, first, exec, returns, enter, alloc_all, pass_all, free_all, look_at, get, get_in, get_tag, through, sets, sets_last, lands_as, env, RattleType, usize, follows, param, bounded, layout, param_laws, uint_Makes, uint_Tells, Bor, MutBor, MutRef, ShrRef, mut_vals, nothing, owned, heard, tells, Tuple, tuple_laws, calls_at, Lasts, ensured, lasts, triple_of, Contract, Triple, framed, Good, Ok-of, Err-of, and_tt, Result, Ok, Err, None, IfOk, OnErr, OnOk, slice_get, Some, option_map, after}
 use Rattle.starlark_hash.specs.Entries.{pair_of}
-use Rattle.starlark_small.specs.Insert.{IsInserted, IsRefused, PutsLast}
+use Rattle.starlark_hash.specs.HashValue.{hash_of, key_of}
+use Rattle.starlark_hash.specs.Lookup.{found}
+use Rattle.starlark_small.specs.Insert.{Inserts, IsInserted, IsRefused, PutsLast}
 use Rattle.starlark_small.specs.Map.{Map}
 use Rattle.starlark_small.specs.contracts.small_map.SmallMap.push as p
 use Rattle.starlark_small.specs.contracts.small_map.SmallMap.entry_mut as e
@@ -46,8 +48,9 @@ insert_hashed_unique_unchecked_spec 𝓤 𝓛 𝓜 𝓡 wired K V LK LV E dE P d
     tells ! (match_of P.eq m.entries key ≡ None) absent $ tells ! (κV ⊑ V.lives) lV $ tells ! (κK ⊑ K.lives) lK $ group ! 3 $ move ! (1 ∷ 0 ∷ []) $ join ! $ use1 𝓛 (raw (Puts.pre z)) (id⊢ 𝓤 _) $
     calls_at ! fm Puts puts z (and_then ! (get ! refl) (and_then ! (get ! refl) (and_then ! (get ! refl) (no_more !)))) (λ u.
     use1 𝓛 (later (some (λ (g : Got). ((‵ (flft ακ qq) ⊛ ‵ (flft κK qK) ⊛ ‵ (flft κV qV) ⊛ ‵ ftrue) ⊛ ‵ ((L.RS.the_row usize Back).own_val g (u ∷ [])))
-    ⊛ some (λ (ws : Lasts (p.ended K V E dE P dP) z.0.0 z.0.3). ‵ (lasts (p.ended K V E dE P dP) z.0.0 z.0.3 ws) ⊛ raw (fact 𝓤 (IfOk g (λ i. i ≡ length m.entries))) ⊛ raw (fact 𝓤 (PutsLast key value brought m ws.0 g)))))) (id⊢ 𝓤 _) $ await ! tt $
-    pick ! (λ g. split ! $ move ! (1 ∷ []) $ pick ! (λ ws. split ! $ fsplit ! $ fsplit ! $ move ! (3 ∷ []) $ split ! $ heard ! _ (λ at_end. heard ! _ (λ put.
+    ⊛ some (λ (ws : Lasts (p.ended K V E dE P dP) z.0.0 z.0.3). ‵ (lasts (p.ended K V E dE P dP) z.0.0 z.0.3 ws) ⊛ raw (fact 𝓤 (IfOk g (λ i. i ≡ length m.entries))) ⊛ raw (fact 𝓤 (PutsLast key value brought m ws.0 g))
+    ⊛ raw (fact 𝓤 (Inserts P.eq key value brought (λ _. length m.entries) m ws.0 g)) ⊛ raw (fact 𝓤 (found (P.eq (key_of key)) (hash_of key) m.entries ≡ None)))))) (id⊢ 𝓤 _) $ await ! tt $
+    pick ! (λ g. split ! $ move ! (1 ∷ []) $ pick ! (λ ws. split ! $ fsplit ! $ fsplit ! $ move ! (3 ∷ []) $ split ! $ heard ! _ (λ at_end. split ! $ heard ! _ (λ put. drop ! $
     let mm : Map K.Denot V.Denot = ws.0 in let self : MutBor (Map K.Denot V.Denot) = record r { now = mm } in
     move ! (3 ∷ []) $ split ! $ split3 ! $ move ! (2 ∷ []) $ split ! $
     -- the loan is over, and self is back
