@@ -1,9 +1,9 @@
-//! Functions whose contract is a law of keys, hashes, lists, calls, runs or unordered maps. A proof gains the law by the call.
+//! Functions whose contract is a law of keys, hashes, lists, runs or unordered maps. A proof gains the law by the call.
 
 pub use starlark_hash::hash_value::{equal_keys_have_one_hash, promotion_is_injective};
 pub use starlark_hash::key_query::query_has_the_hash_of_its_key;
 pub use starlark_runs::{
-    collection, equality, held_room_stays, index_never_shows, insertion, keys, lists, order,
-    replies_agree, reserved_insertions_succeed,
+    collection, held_room_stays, index_never_shows, lists, replies_agree,
+    reserved_insertions_succeed,
 };
 pub use starlark_unordered::laws::{equal_maps_feed_alike, same_pairs_are_equal};

@@ -1,5 +1,5 @@
 -- Keys and room after an insertion.
-use Rattle.starlark_hash.proofs.Common.{◌≡◌, ℕ, zero, suc, ◌+◌, ◌≤◌, ◌<◌, Bool, List, [], ◌∷◌, ◌++◌, length, Option, None, IsSome, is_some, Result, Ok, Err, IfOk, IsOk, IsErr, OnOk, OnErr, MatchResult, refl, sym, ap, subst, ◌∙◌, arith, rules, keys_of, option_map_or, common_steps, false≢true}
+use Rattle.starlark_hash.proofs.Common.{◌≡◌, ℕ, zero, suc, ◌+◌, ◌≤◌, ◌<◌, Bool, List, [], ◌∷◌, ◌++◌, length, Option, IsSome, Result, Ok, Err, IfOk, IsOk, IsErr, MatchResult, refl, ap, subst, arith, rules, keys_of, option_map_or, common_steps, false≢true}
 use Rattle.starlark_hash.specs.declared.hashed.Hashed.{Hashed}
 use Rattle.starlark_hash.specs.Entries.{Entry, set_value_at}
 use Rattle.starlark_hash.specs.Insert.{insert_entry}
@@ -17,12 +17,6 @@ module _ {K V : Type 0} where
   pub keys_of-placed : (es : List (Entry K V)) (key : Hashed K) (value : V) (index : Option ℕ) → IsSome index
       → keys_of (option_map_or (λ i. set_value_at es i value) index (es ++ (key, value) ∷ [])) ≡ keys_of es
   keys_of-placed es key value index there = grind (arith, common_steps, keys_of-set_value_at)
-
-  -- and so does a call that does so, or is refused where there is no index
-  pub keys_of-inserted : {T E : Type 0} (es fs : List (Entry K V)) (key : Hashed K) (value : V) (index : Option ℕ) (r : Result T E)
-      → OnOk r (fs ≡ option_map_or (λ i. set_value_at es i value) index (es ++ (key, value) ∷ [])) → OnErr r (index ≡ None) → IsSome index → keys_of fs ≡ keys_of es
-  keys_of-inserted es fs key value index (Ok t) put absent there = ap keys_of put ∙ keys_of-placed es key value index there
-  keys_of-inserted es fs key value index (Err e) put absent there = absurd (false≢true (sym (ap is_some absent) ∙ there))
 
   -- the map was made, and has room for so many new entries
   abbrev pub HasRoom : {E : Type 0} → ℕ → Result (Map K V) E → Type 0

@@ -1,15 +1,11 @@
-//! The commands of a map and their runs, and laws of its calls and of lists, over public contracts alone. A law is the contract
-//! of a function that makes the calls.
+//! The commands of a map and their runs, over public contracts alone, and laws of runs and of lists of entries. A law is the
+//! contract of a function.
 #![tactic(auto)]
 
 pub mod collection;
 pub mod command;
-pub mod equality;
-pub mod insertion;
-pub mod keys;
 pub mod lists;
 pub mod one_list;
-pub mod order;
 pub mod room;
 pub mod runs;
 

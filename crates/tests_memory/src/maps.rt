@@ -1,26 +1,20 @@
 //! Calls of maps that no command of the player makes, and a closure that is not called where memory is refused.
 
 use crate::given::{count_tens, gives, same, tens};
-use starlark_map::Hashed;
 use starlark_map::small_map::SmallMap;
 use starlark_map::unordered_map::UnorderedMap;
-use starlark_runs::{collection, insertion, order};
+use starlark_runs::collection;
 use std::alloc::{AllocError, Global};
 
-// Whether an insertion of the key 4 by a law succeeds, and sorts by two more.
-fn by_laws(alloc: Global) -> Result<(u32, usize), AllocError> {
-    let mut map = tens(alloc, 4)?;
-    insertion::insertion_of_a_present_key(&mut map, Hashed::new(4), 40)?;
-    map.reverse();
-    order::sort_twice(&mut map)?;
-    map.reverse();
-    order::sort_of_a_sorted_list(&mut map)?;
+// How many of five entries stand in a map that is collected anew as they stood, and how many it has.
+fn anew(alloc: Global) -> Result<(u32, usize), AllocError> {
+    let map = tens(alloc, 5)?;
     Ok(count_tens(&collection::collected_anew(alloc, map)?))
 }
 
 #[test]
-fn inserts_sorts_and_collects_by_laws(rt: HostRuntime) {
-    gives(&rt, by_laws(rt.alloc()), by_laws(rt.alloc()), (5, 5));
+fn collects_anew(rt: HostRuntime) {
+    gives(&rt, anew(rt.alloc()), anew(rt.alloc()), (5, 5));
 }
 
 // How many entries are written by the laws on a new map and on one without room, of which one is written twice.
