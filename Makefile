@@ -1,7 +1,7 @@
 # The program is proved and run by the kit's command `rt`; nothing else is needed. `make` alone lists the targets, and each
 # target says its line, on standard error, before it begins.
 
-# a script, by its path: of map calls; of `play`, of calls on all collections
+# a script, by its path: of map calls; of `play`, of calls on collections of all kinds
 SCRIPT ?= examples/first.script
 # a crate, by its name; of `wrong`, none: all; of `vendor`, the crate of the other repository that is to use the library
 CRATE ?=
@@ -35,7 +35,7 @@ demo: ## plays a few lines on the scopes of an interpreter, with no proof, in ab
 	@cd crates/program_demo && rt try
 
 play: SCRIPT := examples/player.script
-play: ## plays SCRIPT (examples/player.script), calls on all collections, with no proof, in about two minutes
+play: ## plays SCRIPT (examples/player.script), calls on several collections, with no proof, in about two minutes
 	$(says)
 	@./examples/play try "$$SCRIPT" program_player
 
@@ -49,7 +49,7 @@ tests: ## runs the tests of CRATE with no proof, in about a minute
 	@./examples/crate "$$CRATE"
 	@cd "crates/$$CRATE" && rt try --test
 
-test: ## the merge gate, every proof, test and program: about half an hour on four cores, and 4.6 GB in out/, see clean
+test: ## the merge gate, every proof, test and program: half an hour to an hour on four cores, and 4.6 GB in out/, see clean
 	$(says)
 	@./examples/as-in-readme
 	@./docs/pages.py check
