@@ -46,7 +46,7 @@ fn rounded_up(bytes: usize, align: usize) -> usize
     bytes.saturating_add((align - bytes % align) % align)
 }
 
-// The same in 64 bits, without a test.
+// The least multiple of `align` that is not below, in 64 bits and without a test.
 #[inline]
 fn wrapped_up(bytes: usize, align: usize) -> usize
     requires { 0 < align }

@@ -51,7 +51,10 @@ finish s = s.state
 abbrev pub finish_small : StarlarkHasher → StarlarkHashValue
 finish_small s = record { 0 = finish s % 2 ^ 32 }
 
--- the own hash of a key: what a new hasher comes to, cut to 32 bits, once it was fed all that the key feeds. `feeds` is the key
--- type's `hash_input`
+-- the hash of some writes: what a new hasher comes to after them, cut to 32 bits. Proofs over own hashes never unfold it
+unfoldable pub hash_of_writes : HashWrites → StarlarkHashValue
+hash_of_writes writes = finish_small (after_writes writes)
+
+-- a key's own hash: the hash of all that the key feeds. `feeds` is the key type's `hash_input`
 abbrev pub own_hash : {K : Type 0} → (K → HashWrites) → K → StarlarkHashValue
-own_hash feeds key = finish_small (after_writes (feeds key))
+own_hash feeds key = hash_of_writes (feeds key)

@@ -12,6 +12,7 @@ pub struct StarlarkHashValue(u32);
 
 impl StarlarkHashValue {
     /// The key's own hash: what a new hasher finishes with after it was fed the key, cut to 32 bits.
+    #[tactic(auto, unfolding(crate::specs::Hasher::hash_of_writes))]
     #[inline]
     pub fn new<K: Hash>(key: &K) -> Self
         ensures { result ≡ own_hash K.hash_input key.now }

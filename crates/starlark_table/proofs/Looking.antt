@@ -43,10 +43,10 @@ module _ {F T : Type 0} (g : Mut F (Bor T × Unit {0}) Bool) (hash : ℕ) (tags 
 
   module _ (tagged : IsTagged tags slots) where
     -- at the first window, which is told by the number that has the hash
-    module _ (count mask start number : ℕ) (counted : count ≡ length slots) (some : count ≢ 0) (masked : IsMask mask slots)
+    module _ (mask start number : ℕ) (some : 0 < length slots) (masked : IsMask mask slots)
         (is : start ≡ home (mask + 1) number) (hashes : number ≡ hash) where
       homed : (0 < length slots) × (start ≡ a) × (start + 16 ≤ length tags)
-      homed = at_home tags slots tagged hash count mask start number counted some masked is hashes
+      homed = at_home tags slots tagged hash mask start number some masked is hashes
 
       pub looking_begins : (sought same : ℕ) → sought ≡ tag number → same ≡ tag_bits sought tags start 16
           → Looking start start same first
@@ -82,11 +82,11 @@ module _ {F T : Type 0} (g : Mut F (Bor T × Unit {0}) Bool) (hash : ℕ) (tags 
             record { order = l.before ++ []; rearranged = rw nobody at l.split; asks = asks-after g l.before [] first f None f l.refused (refl, refl) }
 
         -- or goes on to the next
-        pub looking_goes_on : (mask sought next bits : ℕ) → (0 < length slots → (q : ℕ) × (q < length slots) × (at slots q ≡ None)) → IsMask mask slots → sought ≡ tag hash → empties ≡ 0
+        pub looking_goes_on : (mask sought next bits : ℕ) → (q : ℕ) × (q < length slots) × (at slots q ≡ None) → IsMask mask slots → sought ≡ tag hash → empties ≡ 0
             → (start + 16 ≤ mask → next ≡ start + 16) → (mask < start + 16 → next ≡ 0) → BitsUpToEmpty sought tags next bits
             → Looking next next bits f × (left_to_look hash slots next next < left_to_look hash slots start slot)
         looking_goes_on mask sought next bits free masked seeks full on round b =
-            let goes = window_goes_on hash tags slots tagged some start slot same l.window none (free some) mask next bits empties (masked some) its full on round (rw seeks at b) in (
+            let goes = window_goes_on hash tags slots tagged some start slot same l.window none free mask next bits empties (masked some) its full on round (rw seeks at b) in (
               record {
                 window = goes.on;
                 rest = l.rest;

@@ -1,6 +1,8 @@
 -- A search that is under way: what it refused so far, and what it is asked then.
-use Rattle.starlark_hash.proofs.Common.{◌≡◌, ℕ, List, [], ◌∷◌, ◌++◌, Option, None, Bool, false, refl, Mut, Bor, IsPermutation-refl}
+use Rattle.starlark_hash.proofs.Common.{◌≡◌, ℕ, List, [], ◌∷◌, ◌++◌, Option, None, Bool, false, refl, Mut, Bor, IsPermutation-refl, length}
+use Rattle.std.proofs.lemmas.List.{nil_from_length}
 use Rattle.starlark_hash.specs.Search.{Asks, Refuses, Searches}
+use Rattle.starlark_table.specs.Table.{holders_in}
 
 module _ {F T : Type 0} (g : Mut F (Bor T × Unit {0}) Bool) where
   pub asks-after : (before later : List (ℕ × T)) (first f : F) (answer : Option ℕ) (last : F) → Refuses g first before f → Asks g f later answer last
@@ -11,3 +13,7 @@ module _ {F T : Type 0} (g : Mut F (Bor T × Unit {0}) Bool) where
   -- where no item is, nobody is asked
   pub searches_none : (items : List (ℕ × T)) (f : F) → items ≡ [] → Searches g items f None f
   searches_none items f none = record { order = []; rearranged = rw none (IsPermutation-refl []); asks = (refl, refl) }
+
+  -- where there are no slots, nobody is asked
+  pub searches_no_slots : (hash : ℕ) (slots : List (Option (ℕ × T))) (f : F) → length slots ≡ 0 → Searches g (holders_in hash slots) f None f
+  searches_no_slots hash slots f none = rw (nil_from_length slots none) (searches_none [] f refl)

@@ -30,9 +30,9 @@ module _ {T : Type 0} (tags : List ℕ) (slots : List (Option (ℕ × T))) (tagg
       grind (arith, room_at start, not_padding (start + count_trailing_zeros 64 bits) empty_tag, empty-by_tag tags slots)
 
   -- the home of a hash, told by the number that has it, and its window
-  pub at_home : (hash count mask start number : ℕ) → count ≡ length slots → count ≢ 0 → IsMask mask slots → start ≡ home (mask + 1) number → number ≡ hash
+  pub at_home : (hash mask start number : ℕ) → 0 < length slots → IsMask mask slots → start ≡ home (mask + 1) number → number ≡ hash
       → (0 < length slots) × (start ≡ home (length slots) hash) × (start + 16 ≤ length tags)
-  at_home hash count mask start number counted some masked is hashes =
+  at_home hash mask start number some masked is hashes =
       let it : start ≡ home (length slots) hash = is ∙ ap (home (mask + 1)) hashes ∙ ap (λ n. home n hash) (masked (omega arith)) in
       (omega arith, it, omega (arith, it, home-below (length slots) hash (omega arith), room_at (home (length slots) hash)))
 

@@ -10,7 +10,7 @@ pub(crate) fn may_be_far(far: u64, tag: u8) -> bool
     far >> (tag % 64) & 1 == 1
 }
 
-// The same bits, and that of this tag beside them: a member with it may stand there from now on.
+// These bits, and that of this tag beside them: a member with it may stand there from now on.
 #[inline]
 pub(crate) fn with_far(far: u64, tag: u8) -> u64
     ensures its { MayBeFar result tag }

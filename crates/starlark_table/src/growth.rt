@@ -1,6 +1,6 @@
 //! Growth: how many slots so many members want; new slots, all empty; and the move of every member into them under the hash
 //! that it keeps.
-ghost use Rattle.std.specs.Prelude.{◌≡◌, ℕ, ◌+◌, ◌^◌, ◌*◌, ◌<◌, ◌≤◌, ◌++◌, None, length, IfOk, OnOk, IsPermutation, IfSome};
+ghost use Rattle.std.specs.Prelude.{◌≡◌, ℕ, ◌+◌, ◌^◌, ◌*◌, ◌<◌, ◌≤◌, ◌++◌, None, length, IfOk, OnOk, IsPermutation, IfSome, IfNone};
 ghost use Rattle.std.specs.List.{AllZip};
 ghost use Rattle.starlark_columns.specs.Cells.{empties};
 ghost use Rattle.starlark_table.specs.Table.{filled, IsSlotClone};
@@ -29,6 +29,8 @@ pub(crate) fn slots_for(needed: usize) -> Option<usize>
     ensures enough { IfSome result (λ count. needed ≤ limit count) }
     ensures most { IfSome result (λ count. limit count ≤ most_for needed) }
     ensures doubled { IfSome result (λ count. (k : ℕ) × (count ≡ 8 * 2 ^ k)) }
+    ensures fewest { IfSome result (λ count. (k : ℕ) → needed ≤ limit (8 * 2 ^ k) → count ≤ 8 * 2 ^ k) }
+    ensures none { IfNone result (2 ^ 60 < needed) }
 {
     if needed > 1 << 60 {
         return None;

@@ -60,7 +60,7 @@ impl<'a, T, H: KeptHash> Loan<'a, T, H> {
     }
 }
 
-// The same of slots with pairs, of which hashes and keys are frozen.
+// Lent slots with pairs, of which hashes and keys are frozen.
 #[derive(Drop)]
 pub(crate) struct PairLoan<'a, K, V, H: KeptHash> {
     slots: starlark_columns::Loan<'a, (Kept<H>, (K, V)), AllButLast>,

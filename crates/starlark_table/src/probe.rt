@@ -29,14 +29,11 @@ pub(crate) fn find_slot<'a, T, H: KeptHash, F: FnMut(&T) -> bool>(
     requires in_place { InPlace (length slots.now) slots.now }
     requires tagged { IsTagged tags.now slots.now }
     requires told { TellsFar far slots.now }
-    requires free { 0 < length slots.now → (q : ℕ) × (q < length slots.now) × (at slots.now q ≡ None) }
+    requires free { (q : ℕ) × (q < length slots.now) × (at slots.now q ≡ None) }
     requires callable { CanSearch F.FnMut (holders_in hash slots.now) eq }
     ensures found { (last : F) × Searches F.FnMut (holders_in hash slots.now) eq (option_map (λ p. p.0) result) last }
     ensures item { IfSome result (λ p. at slots.now p.0 ≡ Some (hash, p.1.now)) }
 {
-    if slots.cells() == 0 {
-        return None;
-    }
     let number = hash.number();
     let sought = tag(number);
     let mut start = home(number, mask);
@@ -93,15 +90,13 @@ pub(crate) fn vacancy<T, H: KeptHash>(
     mask: usize,
     hash: Kept<H>,
 ) -> Option<usize>
+    requires some { 0 < length slots.now }
     requires mask { IsMask mask slots.now }
     requires in_place { InPlace (length slots.now) slots.now }
     requires tagged { IsTagged tags.now slots.now }
     ensures none { IfSome result (λ _. holders_in hash slots.now ≡ []) }
     ensures vacant { IfSome result (λ slot. IsVacancy hash slots.now slot) }
 {
-    if slots.cells() == 0 {
-        return None;
-    }
     let number = hash.number();
     let start = home(number, mask);
     let same = slots_with(tags, start, tag(number));
@@ -136,7 +131,8 @@ pub(crate) fn free_slot<T, H: KeptHash>(slots: &Slots<T, H>, tags: &[u8], home: 
     start + empty.trailing_zeros() as usize
 }
 
-// The same for a member with this tag. Its bit is set where that is not in the first window.
+// The first empty slot from a home on, for a member with this tag. The bit of the tag is set where the slot is not in the
+// first window.
 #[inline]
 fn slot_from<T, H: KeptHash>(
     slots: &Slots<T, H>,
@@ -220,20 +216,4 @@ pub(crate) fn is_full<T, H: KeptHash>(slots: &Slots<T, H>, tags: &[u8], slot: us
     ensures { result ≡ is_some (at slots.now slot) }
 {
     slot < slots.cells() && tags[slot] != EMPTY
-}
-
-#[inline]
-pub(crate) fn item_at<'a, T, H: KeptHash>(
-    slots: &'a Slots<T, H>,
-    tags: &[u8],
-    slot: usize,
-) -> Option<&'a T>
-    requires { IsTagged tags.now slots.now }
-    ensures { option_copied result ≡ option_map (λ m. m.1) (at slots.now slot) }
-{
-    if is_full(slots, tags, slot) {
-        Some(&slots.get(slot).1)
-    } else {
-        None
-    }
 }

@@ -1,11 +1,11 @@
 //! A bag of items under ready hashes. It alone sees how the slots are laid out.
-ghost use Rattle.std.specs.Prelude.{◌≡◌, ℕ, ◌+◌, ◌*◌, ◌<◌, ◌≤◌, Some, None, [], ◌∷◌, ◌++◌, List, length, slice_set, IsOk, IfOk, OnOk, OnErr, IfErr, IfSome, IfNone, IsSome, IsPermutation, Option};
+ghost use Rattle.std.specs.Prelude.{◌≡◌, ℕ, ◌+◌, ◌*◌, ◌^◌, ◌<◌, ◌≤◌, Some, None, [], ◌∷◌, ◌++◌, List, length, slice_set, IsOk, IfOk, OnOk, OnErr, IfErr, IfSome, IfNone, IsSome, is_some, IsPermutation, Option};
 ghost use Rattle.std.specs.Option.{option_and_then, option_copied, option_copied_mut, option_map};
 ghost use Rattle.std.specs.Borrow.{sem};
 ghost use Rattle.std.specs.List.Retain.{RetainsInTurn};
 ghost use Rattle.starlark_hash.specs.Search.{Searches, CanSearch};
 ghost use Rattle.starlark_table.specs.Table.{members, table_capacity, table_len, member_at, item_in, items_of, items_under, GrowsAsNeeded, IsTableClone, NeedsNoMemory};
-ghost use Rattle.starlark_table.specs.Growth.{most_for};
+ghost use Rattle.starlark_table.specs.Growth.{limit, most_for};
 ghost use Rattle.starlark_table.specs.Layout.{IsVacancy};
 ghost use Rattle.starlark_table.specs.Walk.{CanReplace, ReplacesEach, CanRetain, AsksMember};
 
@@ -18,7 +18,7 @@ use crate::growth::{clone_members, empty_slots, limit, move_all, slots_for};
 use crate::home::mask_of;
 use crate::iter::{IntoIter, Iter};
 use crate::kept_hash::{Kept, KeptHash};
-use crate::probe::{Slots, find_slot, item_at, put, put_at, vacancy};
+use crate::probe::{Slots, find_slot, is_full, put, put_at, vacancy};
 use crate::remove::take_out;
 use crate::replace::replace_items;
 use crate::retain::retain_items;
@@ -88,7 +88,7 @@ impl<T> ReadyTable<T> {
 impl<T, H: KeptHash> ReadyTable<T, H> {
     ghost use Rattle.starlark_table.specs.Lend.{lends_item, lends_get};
 
-    /// As `new`, in the form in which `H` keeps hashes.
+    /// An empty table without room, which keeps hashes in the form of `H`. It asks for no memory before the first insertion.
     pub fn without_slots(alloc: Global) -> ReadyTable<T, H>
         ensures empty { members result ≡ [] }
         ensures slots { result.slots ≡ [] }
@@ -102,12 +102,16 @@ impl<T, H: KeptHash> ReadyTable<T, H> {
         }
     }
 
-    /// As `with_capacity`, in the form in which `H` keeps hashes.
+    /// An empty table that keeps hashes in the form of `H`, with room for so many insertions at least, and for twice as
+    /// many, or 6, at most: it has the fewest slots that give the room. Where memory is refused, nothing is made; capacity
+    /// 0 is not refused.
     pub fn keeping(alloc: Global, capacity: usize) -> Result<ReadyTable<T, H>, AllocError>
         ensures empty { IfOk result (λ t. members t ≡ []) }
         ensures room { IfOk result (λ t. capacity ≤ t.room) }
         ensures most { IfOk result (λ t. t.room ≤ most_for capacity) }
         ensures slots { IfOk result (λ t. length t.slots ≤ 2 * most_for capacity) }
+        ensures fewest { IfOk result (λ t. (k : ℕ) → capacity ≤ limit (8 * 2 ^ k) → length t.slots ≤ 8 * 2 ^ k) }
+        ensures load { IfOk result (λ t. t.room ≡ limit (length t.slots)) }
         ensures none_for_none { capacity ≡ 0 → IsOk result }
     {
         if capacity == 0 {
@@ -158,6 +162,9 @@ impl<T, H: KeptHash> ReadyTable<T, H> {
         requires { CanSearch F.FnMut (items_under (H.number hash) self.now) eq }
         ensures { (last : F) × Searches F.FnMut (items_under (H.number hash) self.now) eq result last }
     {
+        if self.slots() == 0 {
+            return None;
+        }
         let (slot, _) = find_slot(
             &self.slots,
             self.tags.as_slice(tags_beside(&self.slots)),
@@ -175,6 +182,19 @@ impl<T, H: KeptHash> ReadyTable<T, H> {
         requires { CanSearch F.FnMut (items_under (H.number hash) self.now) eq }
         ensures { (slot : Option ℕ) × (last : F) × Searches F.FnMut (items_under (H.number hash) self.now) eq slot last × (option_copied result ≡ option_and_then (item_in self.now) slot) }
     {
+        if self.slots() == 0 {
+            return None;
+        }
+        self.find_item_unchecked(hash, eq)
+    }
+
+    /// Finds the item as `find_item` does, in a table that has slots. It is not asked whether it has.
+    #[inline(always)]
+    pub fn find_item_unchecked<F: FnMut(&T) -> bool>(&self, hash: H, eq: F) -> Option<&T>
+        requires some { 0 < length self.now.slots }
+        requires callable { CanSearch F.FnMut (items_under (H.number hash) self.now) eq }
+        ensures { (slot : Option ℕ) × (last : F) × Searches F.FnMut (items_under (H.number hash) self.now) eq slot last × (option_copied result ≡ option_and_then (item_in self.now) slot) }
+    {
         let (_, item) = find_slot(
             &self.slots,
             self.tags.as_slice(tags_beside(&self.slots)),
@@ -190,6 +210,19 @@ impl<T, H: KeptHash> ReadyTable<T, H> {
     /// hash; mostly it does where none is. The slot is good until the next change.
     #[inline(always)]
     pub fn vacancy(&self, hash: H) -> Option<usize>
+        ensures none { IfSome result (λ _. items_under (H.number hash) self.now ≡ []) }
+        ensures vacant { IfSome result (λ slot. IsVacancy (H.number hash) self.now.slots slot) }
+    {
+        if self.slots() == 0 {
+            return None;
+        }
+        self.vacancy_unchecked(hash)
+    }
+
+    /// Looks for a vacancy as `vacancy` does, in a table that has slots. It is not asked whether it has.
+    #[inline(always)]
+    pub fn vacancy_unchecked(&self, hash: H) -> Option<usize>
+        requires { 0 < length self.now.slots }
         ensures none { IfSome result (λ _. items_under (H.number hash) self.now ≡ []) }
         ensures vacant { IfSome result (λ slot. IsVacancy (H.number hash) self.now.slots slot) }
     {
@@ -220,8 +253,20 @@ impl<T, H: KeptHash> ReadyTable<T, H> {
     pub fn get(&self, slot: usize) -> Option<&T>
         ensures { option_copied result ≡ option_map (λ m. m.1) (member_at self.now slot) }
     {
-        let tags = self.tags.as_slice(tags_beside(&self.slots));
-        item_at(&self.slots, tags, slot)
+        if self.is_full(slot) {
+            Some(self.get_unchecked(slot))
+        } else {
+            None
+        }
+    }
+
+    /// The item of a slot that has one. The tag of the slot is not read.
+    #[inline]
+    pub fn get_unchecked(&self, slot: usize) -> &T
+        requires { IsSome (member_at self.now slot) }
+        ensures { option_map (λ m. m.1) (member_at self.now slot) ≡ Some result.now }
+    {
+        &self.slots.get(slot).1
     }
 
     /// The item in a slot, where it has one, for writing. The slot ends with what is left in it, under the same hash,
@@ -231,14 +276,14 @@ impl<T, H: KeptHash> ReadyTable<T, H> {
         ensures* writes_back { sem 𝓛 (lends_get T.row H.row ⟦<H as KeptHash>⟧ self.entry slot result) }
         ensures value { option_copied_mut result ≡ option_map (λ m. m.1) (member_at self.old slot) }
     {
-        if self.get(slot).is_some() {
+        if self.is_full(slot) {
             Some(self.get_unchecked_mut(slot))
         } else {
             None
         }
     }
 
-    /// The same of a slot that has an item.
+    /// The item of a slot that has one, for writing. The tag of the slot is not read.
     #[inline]
     pub fn get_unchecked_mut(&mut self, slot: usize) -> &mut T
         requires { IsSome (member_at self.old slot) }
@@ -246,6 +291,18 @@ impl<T, H: KeptHash> ReadyTable<T, H> {
         ensures value { option_map (λ m. m.1) (member_at self.old slot) ≡ Some result.now }
     {
         &mut self.slots.get_mut(slot).1
+    }
+
+    // Whether a slot has a member, by its tag.
+    #[inline]
+    fn is_full(&self, slot: usize) -> bool
+        ensures { result ≡ is_some (member_at self.now slot) }
+    {
+        is_full(
+            &self.slots,
+            self.tags.as_slice(tags_beside(&self.slots)),
+            slot,
+        )
     }
 
     /// Puts an item in, also where an equal one is there, and answers its slot. The table grows only at room 0, and
@@ -267,7 +324,7 @@ impl<T, H: KeptHash> ReadyTable<T, H> {
         Ok(self.insert_reserved(hash, item))
     }
 
-    /// The same where the room for the item is there, as after `reserve`: it is never refused.
+    /// Puts an item in where the room for it is there, as after `reserve`, and answers its slot. It is never refused.
     #[inline]
     pub fn insert_reserved(&mut self, hash: H, item: T) -> usize
         requires { 0 < self.old.room }
@@ -290,7 +347,7 @@ impl<T, H: KeptHash> ReadyTable<T, H> {
         slot
     }
 
-    /// The same at a slot that `vacancy` answered for this hash, with no change since: no slot is looked for.
+    /// Puts an item into a slot that `vacancy` answered for this hash, with no change since: no slot is looked for.
     #[inline(always)]
     pub fn insert_at(&mut self, hash: H, item: T, slot: usize)
         requires room { 0 < self.old.room }
@@ -386,32 +443,41 @@ impl<T, H: KeptHash> ReadyTable<T, H> {
         ensures none { IfNone result (self.new ≡ self.old) }
         ensures room { table_capacity self.new ≡ table_capacity self.old }
     {
+        if self.is_full(slot) {
+            Some(self.remove_unchecked(slot))
+        } else {
+            None
+        }
+    }
+
+    /// Takes out the member of a slot that has one, with its hash. The tag of the slot is not asked whether it has.
+    #[inline]
+    pub fn remove_unchecked(&mut self, slot: usize) -> (u64, T)
+        requires { IsSome (member_at self.old slot) }
+        ensures found { member_at self.old slot ≡ Some result }
+        ensures rest { IsPermutation (members self.old) (result ∷ members self.new) }
+        ensures room { table_capacity self.new ≡ table_capacity self.old }
+    {
         self.remove_followed(slot, &mut ())
     }
 
-    /// The same, and tells `follower` of each member that moves.
+    /// Takes out the member of a slot that has one, with its hash, and tells `follower` of each member that moves.
     #[inline]
-    pub fn remove_followed<F: Follows<T>>(
-        &mut self,
-        slot: usize,
-        follower: &mut F,
-    ) -> Option<(u64, T)>
-        requires { F.knows follower.old (slice_set self.old.slots slot None) }
+    pub fn remove_followed<F: Follows<T>>(&mut self, slot: usize, follower: &mut F) -> (u64, T)
+        requires full { IsSome (member_at self.old slot) }
+        requires known { F.knows follower.old (slice_set self.old.slots slot None) }
         ensures known { F.knows follower.new self.new.slots }
         ensures size { F.size follower.new ≡ F.size follower.old }
         ensures slots { length self.new.slots ≡ length self.old.slots }
-        ensures found { result ≡ member_at self.old slot }
-        ensures rest { IfSome result (λ m. IsPermutation (members self.old) (m ∷ members self.new)) }
-        ensures none { IfNone result (self.new ≡ self.old) }
+        ensures found { member_at self.old slot ≡ Some result }
+        ensures rest { IsPermutation (members self.old) (result ∷ members self.new) }
         ensures room { table_capacity self.new ≡ table_capacity self.old }
     {
         let count = tags_beside(&self.slots);
         let tags = self.tags.as_mut_slice(count);
-        let Some(member) = take_out(&mut self.slots, tags, self.far, slot, follower) else {
-            return None;
-        };
+        let member = take_out(&mut self.slots, tags, self.far, slot, follower);
         self.len -= 1;
-        Some((member.0.number(), member.1))
+        (member.0.number(), member.1)
     }
 
     /// Puts what `f` answers in the place of each item, under the same hash: `f` is called once on each member, along

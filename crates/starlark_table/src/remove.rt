@@ -1,5 +1,5 @@
 //! Removal from the slots: the members behind an emptied slot move back, so that none is lost to its search.
-ghost use Rattle.std.specs.Prelude.{◌≡◌, ◌≢◌, ℕ, ◌+◌, ◌<◌, ◌≤◌, ◌⊎◌, None, true, false, ◌∷◌, length, IfSome, IfNone, IsPermutation, slice_index_or, slice_set};
+ghost use Rattle.std.specs.Prelude.{◌≡◌, ◌≢◌, ℕ, ◌+◌, ◌<◌, ◌≤◌, ◌⊎◌, None, true, false, ◌∷◌, Some, length, IfSome, IfNone, IsPermutation, slice_index_or, slice_set};
 ghost use Rattle.std.specs.List.{swap};
 ghost use Rattle.starlark_columns.specs.Cells.{IsFilled};
 ghost use Rattle.starlark_table.specs.Table.{filled};
@@ -9,7 +9,7 @@ ghost use Rattle.starlark_table.specs.Growth.{limit};
 use crate::follow::Follows;
 use crate::home::{distance, home_among, is_far, next_slot, window_behind};
 use crate::kept_hash::{Kept, KeptHash};
-use crate::probe::{Slots, is_full};
+use crate::probe::Slots;
 use crate::tags::{EMPTY, is_passed};
 
 // Whether the member of a slot stands behind the first window of its search, and has the hole on its way.
@@ -119,7 +119,7 @@ fn leaves_gap(tags: &[u8], slot: usize, far: u64) -> bool
     far != 0 && is_passed(tags, slot)
 }
 
-// Takes a member out, and puts the others back in place.
+// Takes out the member of a slot that has one, and puts the others back in place.
 #[inline]
 pub(crate) fn take_out<T, H: KeptHash, F: Follows<T>>(
     slots: &mut Slots<T, H>,
@@ -127,7 +127,8 @@ pub(crate) fn take_out<T, H: KeptHash, F: Follows<T>>(
     far: u64,
     slot: usize,
     follower: &mut F,
-) -> Option<(Kept<H>, T)>
+) -> (Kept<H>, T)
+    requires full { IsFilled slots.old slot }
     requires load { length (filled slots.old) ≤ limit (length slots.old) }
     requires in_place { InPlace (length slots.old) slots.old }
     requires tagged { IsTagged tags.old slots.old }
@@ -136,21 +137,17 @@ pub(crate) fn take_out<T, H: KeptHash, F: Follows<T>>(
     ensures sized { length slots.new ≡ length slots.old }
     ensures known { F.knows follower.new slots.new }
     ensures size { F.size follower.new ≡ F.size follower.old }
-    ensures found { result ≡ at slots.old slot }
-    ensures rest { IfSome result (λ m. IsPermutation (filled slots.old) (m ∷ filled slots.new)) }
-    ensures none { IfNone result (slots.new ≡ slots.old) }
+    ensures found { at slots.old slot ≡ Some result }
+    ensures rest { IsPermutation (filled slots.old) (result ∷ filled slots.new) }
     ensures in_place { InPlace (length slots.new) slots.new }
     ensures told { TellsFar far slots.new }
     ensures tagged { IsTagged tags.new slots.new }
 {
-    if !is_full(slots, tags, slot) {
-        return None;
-    }
     let passed = leaves_gap(tags, slot, far);
     let member = slots.take(slot);
     tags[slot] = EMPTY;
     if passed {
         close_gap(slots, tags, slot, follower);
     }
-    Some(member)
+    member
 }

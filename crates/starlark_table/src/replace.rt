@@ -24,7 +24,7 @@ pub(crate) fn replace_items<T: Drop, H: KeptHash, F: FnMut(&T) -> T>(
     }
 }
 
-// The same in a window of slots. The answer is where it ends.
+// Replaces the items of a window of slots. The answer is where it ends.
 fn replace_window<T: Drop, H: KeptHash, F: FnMut(&T) -> T>(
     slots: &mut Slots<T, H>,
     tags: &[u8],

@@ -53,7 +53,7 @@ pub(crate) fn slots_with(tags: &[u8], start: usize, tag: u8) -> u64
     lanes.simd_eq(u8x16::splat(tag)).to_bitmask()
 }
 
-// The same, up to the first slot with the empty tag.
+// A bit for each slot of the window from one on, up to the first with the empty tag: whether it has this tag.
 #[inline]
 pub(crate) fn slots_up_to_empty(tags: &[u8], start: usize, tag: u8) -> u64
     requires { start + window ≤ length tags.now }

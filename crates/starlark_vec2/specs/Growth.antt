@@ -1,6 +1,12 @@
 -- How a list of pairs grows: what a reservation and a push make of its capacity.
-use Rattle.std.specs.Prelude.{ℕ, ◌+◌, ◌*◌, ◌-◌, ◌^◌, max, min, List, [], ◌∷◌, ◌++◌, length, nat_lt, if◌then◌else◌}
+use Rattle.std.specs.Prelude.{◌≡◌, ℕ, ◌+◌, ◌*◌, ◌-◌, ◌^◌, max, min, List, [], ◌∷◌, ◌++◌, length, nat_lt, if◌then◌else◌}
+use Rattle.std.specs.Mem.{type_size}
+use denote.RattleType.{RattleType}
 use Rattle.starlark_vec2.specs.PairList.{PairList, pair_list}
+
+-- a pair takes no bytes: neither part has any
+abbrev pub TakesNoBytes : RattleType → RattleType → Type 0
+TakesNoBytes A B = (type_size A ≡ 0) × (type_size B ≡ 0)
 
 module _ {A B : Type 0} where
   -- the capacity after growth that makes room for n further pairs: the largest of what is needed, 4 and twice the old one,

@@ -60,7 +60,7 @@ impl<'a, K, V> Loan<'a, K, V> {
         }
     }
 
-    // The same of the column behind another, by the spot of their block.
+    // Lends the column behind another, by the spot of their block.
     #[inline]
     pub(crate) fn behind<B>(pairs: &'a mut Row<(K, V)>, spot: Spot<B>, len: usize) -> Loan<'a, K, V>
         requires at { IsBehind B.row (Tuple (K.row ∷ V.row ∷ [])) spot pairs.old.at }

@@ -4,7 +4,7 @@ ghost use Rattle.std.specs.Option.{option_map};
 ghost use Rattle.std.specs.Map.Iter.{TakesLast, deref_pair};
 ghost use Rattle.starlark_vec2.specs.Growth as after;
 ghost use Rattle.starlark_vec2.specs.PairList.{pair_list, firsts_of, seconds_of, with_pairs};
-ghost use Rattle.starlark_vec2.specs.Growth.{reserved_capacity};
+ghost use Rattle.starlark_vec2.specs.Growth.{reserved_capacity, TakesNoBytes};
 ghost use Rattle.starlark_vec2.specs.Iter.{WalkShows, WalkShowsBack};
 
 mod collect;
@@ -77,13 +77,14 @@ impl<A, B> Vec2<A, B> {
         }
     }
 
-    /// A list without pairs, with room for `capacity` of them. Capacity 0 takes no memory; where another
-    /// finds none, nothing is made.
+    /// A list without pairs, with room for `capacity` of them. Capacity 0 takes no memory, nor do pairs without bytes;
+    /// where another finds none, nothing is made.
     #[tactic(auto, using(crate::proofs::Pairs::columns))]
     #[inline]
     pub fn with_capacity(alloc: Global, capacity: usize) -> Result<Vec2<A, B>, AllocError>
         ensures made { IfOk result (λ v. v ≡ pair_list [] capacity) }
         ensures succeeds { capacity ≡ 0 → IsOk result }
+        ensures weightless { TakesNoBytes A.row B.row → IsOk result }
     {
         let (spot, seconds, firsts, block) = with_rows(alloc, capacity)?;
         Ok(Vec2 {
@@ -213,12 +214,13 @@ impl<A, B> Vec2<A, B> {
     /// Makes room for so many further pairs. It grows only where their room is missing, to the largest of what is
     /// needed, 4 and twice the capacity (cut at the greatest `usize`); Rust's grows by a rule of its own. Where memory
     /// is refused, and where a block would be too large, the list is as it was. Where the room is there, it is not
-    /// refused and nothing changes.
+    /// refused and nothing changes; pairs without bytes are refused only where 64 bits do not count them.
     #[tactic(auto, using(crate::proofs::Pairs::columns))]
     #[inline]
     pub fn reserve(&mut self, additional: usize) -> Result<(), AllocError>
         ensures list { self.new ≡ (if is_ok result then after.reserve self.old additional else self.old) }
         ensures succeeds { additional ≤ self.old.capacity - length self.old.pairs → IsOk result }
+        ensures weightless { TakesNoBytes A.row B.row → length self.old.pairs + additional < 2 ^ 64 → IsOk result }
     {
         if additional <= self.capacity() - self.len {
             return Ok(());
@@ -232,7 +234,8 @@ impl<A, B> Vec2<A, B> {
     #[inline(never)]
     fn grow(&mut self, additional: usize) -> Result<(), AllocError>
         requires { self.old.capacity - length self.old.pairs < additional }
-        ensures { self.new ≡ (if is_ok result then after.reserve self.old additional else self.old) }
+        ensures list { self.new ≡ (if is_ok result then after.reserve self.old additional else self.old) }
+        ensures weightless { TakesNoBytes A.row B.row → length self.old.pairs + additional < 2 ^ 64 → IsOk result }
     {
         let Some(capacity) = grown(self.len, self.capacity(), additional) else {
             return Err(AllocError);
@@ -246,6 +249,7 @@ impl<A, B> Vec2<A, B> {
         requires { length self.old.pairs ≤ capacity }
         ensures list { self.new ≡ (if is_ok result then pair_list self.old.pairs capacity else self.old) }
         ensures succeeds { capacity ≡ 0 → IsOk result }
+        ensures weightless { TakesNoBytes A.row B.row → IsOk result }
     {
         let (spot, mut seconds, mut firsts, mut block) = with_rows(self.alloc, capacity)?;
         let old = self.spot;
@@ -261,13 +265,15 @@ impl<A, B> Vec2<A, B> {
     }
 
     /// Puts a pair at the end. Both columns have room before either part is stored. Where there is no memory the list
-    /// is as it was, and the pair comes back; that can't be while the length is below the capacity.
+    /// is as it was, and the pair comes back; that can't be while the length is below the capacity, nor, while 64 bits
+    /// count them, of pairs without bytes.
     #[tactic(auto, using(crate::proofs::Pairs::columns))]
     #[inline]
     pub fn push(&mut self, a: A, b: B) -> Result<(), NoRoom<(A, B)>>
         ensures list { self.new ≡ (if is_ok result then after.push self.old (a, b) else self.old) }
         ensures handed_back { IfErr result (λ refused. refused.0 ≡ (a, b)) }
         ensures succeeds { length self.old.pairs < self.old.capacity → IsOk result }
+        ensures weightless { TakesNoBytes A.row B.row → length self.old.pairs + 1 < 2 ^ 64 → IsOk result }
     {
         if self.reserve(1).is_err() {
             return Err(NoRoom((a, b)));
@@ -329,12 +335,14 @@ impl<A, B> Vec2<A, B> {
     }
 
     /// Makes the capacity equal to the length. The new block is there before a pair moves; where there is no memory
-    /// for it, the list is as it was. Without pairs, or at a capacity that fits already, no memory is needed.
+    /// for it, the list is as it was. Without pairs, at a capacity that fits already, or of pairs without bytes, no
+    /// memory is needed.
     #[tactic(auto, using(crate::proofs::Pairs::columns))]
     pub fn shrink_to_fit(&mut self) -> Result<(), AllocError>
         ensures list { self.new ≡ (if is_ok result then pair_list self.old.pairs (length self.old.pairs) else self.old) }
         ensures succeeds_empty { length self.old.pairs ≡ 0 → IsOk result }
         ensures succeeds_fitting { length self.old.pairs ≡ self.old.capacity → IsOk result }
+        ensures weightless { TakesNoBytes A.row B.row → IsOk result }
     {
         if self.len == self.capacity() {
             return Ok(());

@@ -28,7 +28,7 @@ pub(crate) fn search_columns<K, V, F: FnMut(&K) -> bool>(
     search_few(pairs, hashes, hash, accepts)
 }
 
-// The same of columns that one mask covers.
+// The first such index of columns that one mask covers.
 #[inline(always)]
 pub(crate) fn search_few<K, V, F: FnMut(&K) -> bool>(
     pairs: &[(K, V)],
@@ -54,7 +54,7 @@ pub(crate) fn search_few<K, V, F: FnMut(&K) -> bool>(
     None
 }
 
-// The same of columns for which one mask does not do.
+// The first such index of columns for which one mask does not do.
 #[inline(never)]
 fn search_long<K, V, F: FnMut(&K) -> bool>(
     pairs: &[(K, V)],

@@ -27,7 +27,7 @@ pub fn find_hash_in_array(array: &[u32], hash: u32) -> Option<usize>
     Some(mask.trailing_zeros() as usize)
 }
 
-// The same of an array of more hashes, block by block.
+// The least such index of an array of more hashes, block by block.
 fn find_hash_in_blocks(array: &[u32], hash: u32) -> Option<usize>
     requires { 8 < length array.now }
     ensures index { result ≡ position (λ h. h == hash) array.now }
@@ -66,7 +66,7 @@ pub(crate) fn indices_of(array: &[u32], hash: u32) -> u64
     }
 }
 
-// The same of a longer array. Its last hash is read by itself: it may just have been written, and a processor that reads it
+// A bit for each index of a longer array. Its last hash is read by itself: it may just have been written, and a processor that reads it
 // together with others waits until it is in memory. The code is long, so it is called.
 #[inline(never)]
 fn indices_of_long(array: &[u32], hash: u32) -> u64
@@ -79,7 +79,7 @@ fn indices_of_long(array: &[u32], hash: u32) -> u64
     front + (u64::from(array[last] == hash) << last)
 }
 
-// The same of a short array. Two runs of four hashes cover it: the second ends where the array does, and may begin in
+// A bit for each index of a short array. Two runs of four hashes cover it: the second ends where the array does, and may begin in
 // the first, whose bits count.
 #[inline]
 fn indices_of_short(array: &[u32], hash: u32) -> u64
@@ -94,7 +94,7 @@ fn indices_of_short(array: &[u32], hash: u32) -> u64
     indices_of_four(array, 0, hash) + ((last >> (8 - len)) << 4)
 }
 
-// The same of a block, by two runs of eight or sixteen.
+// A bit for each index of a block, by two runs of eight or sixteen.
 #[inline]
 fn indices_of_block(block: &[u32], hash: u32) -> u64
     requires enough { 8 ≤ length block.now }
@@ -111,7 +111,7 @@ fn indices_of_block(block: &[u32], hash: u32) -> u64
     }
 }
 
-// The same of the four indices from one on.
+// A bit for each of the four indices from one on.
 #[inline]
 fn indices_of_four(block: &[u32], start: usize, hash: u32) -> u64
     requires { start + 4 ≤ length block.now }
@@ -139,7 +139,7 @@ fn indices_of_sixteen(block: &[u32], start: usize, hash: u32) -> u64
     sixteen.simd_eq(u32x16::splat(hash)).to_bitmask()
 }
 
-// The same of a block of fewer than four.
+// A bit for each index of a block of fewer than four.
 #[inline]
 fn indices_of_few(block: &[u32], hash: u32) -> u64
     requires { length block.now < 4 }

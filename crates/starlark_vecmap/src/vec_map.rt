@@ -17,7 +17,6 @@ mod retain;
 mod sort;
 
 use crate::columns::{search_columns, search_few};
-use crate::hash_search::BLOCK;
 pub use into_iter::{IntoIter, IntoIterHashed, IntoKeys, IntoValues};
 pub use iter::{Iter, IterHashed, Keys, Values};
 use starlark_hash::{Hashed, NoRoom, Query, StarlarkHashValue};
@@ -128,19 +127,16 @@ impl<K, V> VecMap<K, V> {
         self.get_index_of_hashed_raw(hash, move |k: &K| query.stands_for(k))
     }
 
-    /// As `get_index_of_hashed`, where there are up to 32 entries; None where there are more. The code is short, since
-    /// it has one way to search. Rust has no such call.
+    /// The first index under the query's hash whose key the query stands for, among at most 32 entries. The code is
+    /// short, since it has one way to search. Rust has no such call.
     #[inline(always)]
     pub fn get_index_of_hashed_among_few<Q: Query<K>>(&self, key: Hashed<Q>) -> Option<usize>
     where
         K: Eq,
-        ensures index { length self.now.entries ≤ 32 → result ≡ position_of (hash_of key) (Q.stands_for (key_of key)) self.now.entries }
-        ensures many { 32 < length self.now.entries → result ≡ None }
+        requires { length self.now.entries ≤ 32 }
+        ensures index { result ≡ position_of (hash_of key) (Q.stands_for (key_of key)) self.now.entries }
         ensures within { IfSome result (λ i. i < length self.now.entries) }
     {
-        if self.len() > BLOCK {
-            return None;
-        }
         let hash = key.hash();
         let query = key.into_key();
         self.search_few(hash, move |k: &K| query.stands_for(k))
@@ -325,7 +321,7 @@ impl<K, V> VecMap<K, V> {
         Ok(())
     }
 
-    /// The same where the room for the entry is there: as after `reserve`. The capacity stays.
+    /// Puts an entry at the end where the room for it is there, as after `reserve`. The capacity stays.
     #[inline]
     pub fn push_reserved(&mut self, key: Hashed<K>, value: V)
         requires { length self.old.entries < self.old.capacity }

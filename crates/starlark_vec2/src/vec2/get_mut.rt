@@ -117,7 +117,7 @@ fn lend_behind<T, B>(column: &mut Row<T>, spot: Spot<B>, index: usize) -> &mut T
     column.get_mut(second_at(spot), index)
 }
 
-// The same, where it is one of the first `len`.
+// The item at this index of the column behind, where it is one of the first `len`.
 #[tactic(auto, using(std::proofs::lemmas::Option::slice_get_past))]
 #[inline]
 fn lend_behind_if<T, B>(

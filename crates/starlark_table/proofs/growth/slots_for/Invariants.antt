@@ -8,6 +8,7 @@ invariant-loop-count l = record {
   fits : l.count ≤ 2 ^ 62;
   most : limit l.count ≤ most_for l.needed;
   doubled : (k : ℕ) × (l.count ≡ 8 * 2 ^ k);
+  fewest : (k : ℕ) → l.needed ≤ limit (8 * 2 ^ k) → l.count ≤ 8 * 2 ^ k;
 }
 
 abbrev pub decreases-loop-count : goal.decreases-loop-count

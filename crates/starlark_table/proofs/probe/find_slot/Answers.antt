@@ -2,8 +2,6 @@ use Rattle.starlark_hash.proofs.Common.{◌∙◌, ap, ◌<◌, length, arith, r
 use Rattle.starlark_table.specs.Layout.{tag}
 use Rattle.starlark_table.proofs.TagCount.{long_tags}
 use Rattle.std.proofs.lemmas.Fn.{called_at}
-use Rattle.std.proofs.lemmas.List.{nil_from_length}
-use Rattle.starlark_table.proofs.Searching.{searches_none}
 use Rattle.starlark_table.proofs.Looking.{Looking, left_to_look, same-by_test, other-by_test, looking_begins, looking_within, looking_ends, looking_near, looking_goes_on, looking_full, looking_asks, looking_accepts, looking_nearer, looking_refuses, looking_skips}
 use Rattle.starlark_table.proofs.probe.find_slot.Given.{Over}
 use Rattle.starlark_table.proofs.probe.find_slot.Goals as goal
@@ -11,7 +9,9 @@ use Rattle.starlark_table.proofs.probe.find_slot.Goals.{After-slots_with-same, A
 
 -- at the window of the home
 begins : (g : Over) (c : After-slots_with-same g) → Looking g.F.FnMut c.args.hash c.args.tags.now c.args.slots.now c.args.eq c.home-start.result c.home-start.result c.slots_with-same.result c.args.eq
-begins g c = search (looking_begins g.F.FnMut)
+begins g c =
+    let some : 0 < length c.args.slots.now = omega (arith, c.requires.free.1) in
+    search (looking_begins g.F.FnMut, some)
 
 -- at the next window, where this one has no bit left
 goes_on : (g : Over) (c : After-slots_up_to_empty-same g)
@@ -20,9 +20,6 @@ goes_on : (g : Over) (c : After-slots_up_to_empty-same g)
 goes_on g c =
     looking_goes_on g.F.FnMut _ _ _ _ c.requires.tagged _ _ _ _ c.windows.invariant c.if-same-eq0.true _ c.slots_with.ensures _ _ _ _ c.requires.free c.requires.mask
     (c.tag-sought.ensures ∙ ap tag c.number-number.ensures) c.if-slots_with-ne0.false c.window_after-start.ensures.on c.window_after-start.ensures.round c.slots_up_to_empty-same.ensures
-
-pub returns-then-cells-eq0-clause-found : goal.returns-then-cells-eq0-clause-found
-returns-then-cells-eq0-clause-found g c = (c.args.eq, searches_none g.F.FnMut _ _ (let none = nil_from_length c.args.slots.now (omega (arith, c.cells.ensures.cells, c.if-cells-eq0.true)) in rw none))
 
 pub get-requires : goal.get-requires
 get-requires g c = search (looking_full g.F.FnMut, begins g (goal.at.get-requires g c).After-slots_with-same)
@@ -63,7 +60,9 @@ returns-then-ends_at_home-clause-found g c = (
   c.args.eq,
   elim (c.ends_at_home.ensures c.if-ends_at_home.true) [
     | inl empty ↦ search (looking_ends g.F.FnMut, begins g (goal.at.returns-then-ends_at_home-clause-found g c).After-slots_with-same, empty)
-    | inr near ↦ search (looking_near g.F.FnMut, near)
+    | inr near ↦
+        let some : 0 < length c.args.slots.now = omega (arith, c.requires.free.1) in
+        search (looking_near g.F.FnMut, near, some)
   ],
 )
 
@@ -114,4 +113,4 @@ windows-preserved g c =
 pub overflow_add-slot : goal.overflow_add-slot
 overflow_add-slot g c =
     let within = looking_within g.F.FnMut _ _ _ _ c.requires.tagged _ _ _ _ (begins g (goal.at.overflow_add-slot g c).After-slots_with-same) c.if-same-ne0.true in
-    omega (arith, within, c.cells.ensures.fits)
+    omega (arith, within, c.requires.mask (omega (arith, within)), c.ranges.mask)

@@ -1,16 +1,7 @@
-use Rattle.starlark_hash.proofs.Common.{Some, sym, ap, option_map}
-use Rattle.starlark_table.proofs.Load.{sound-empty_slot}
+use Rattle.starlark_hash.proofs.Common.{None, arith, refl}
+use Rattle.starlark_table.proofs.Searching.{searches_no_slots}
 use Rattle.starlark_table.proofs.ready_table.ReadyTable.find_item.Goals as goal
 
-pub find_slot-requires-clause-free : goal.find_slot-requires-clause-free
-find_slot-requires-clause-free g c = sound-empty_slot _ _ _ _ c.self.invariant
-
-pub find_slot-requires-clause-callable : goal.find_slot-requires-clause-callable
-find_slot-requires-clause-callable g c = rw (ap (λ t. t.slots) c.self.view_is, c.of.ensures) c.requires
-
-pub returns : goal.returns
-returns g c =
-    let found = c.in_ok-item.ensures.found in
-    let shown = ap (λ t. t.slots) c.self.view_is in
-    let there = rw shown at c.in_ok-item.ensures.item in
-    (Some c.in_ok-item.field-0-0, found.0, rw (shown, c.of.ensures) at found.1, sym (ap (option_map (λ m. m.1)) there))
+pub returns-then-slots-eq0 : goal.returns-then-slots-eq0
+returns-then-slots-eq0 g c =
+    (None, c.args.eq, searches_no_slots g.F.FnMut _ c.args.self.now.slots c.args.eq (omega (arith, c.slots.ensures, c.if-slots-eq0.true)), refl)
