@@ -1,5 +1,5 @@
 -- What look-ups find once an iterator's items went in, and in a list of clones.
-use Rattle.starlark_hash.proofs.Common.{◌||◌, nat_lt, common_steps, ◌≡◌, Bool, true, false, List, [], ◌∷◌, map, position, cond, Option, Some, None, is_some, Result, Ok, Err, OnOk, refl, sym, ap, ◌∙◌, subst, ℕ, get_or, length, IsSome, slice_get, arith, IfSome, IsEquivalence, HashWrites, Drains, AllZip, update_all, keys_of, map-id, is_some-update_all, slice_get-get_or, slice_get-map, option_map, ◌&&◌, ◌<◌, AllZip-get_or, length_all_zip}
+use Rattle.starlark_hash.proofs.Common.{◌||◌, nat_lt, common_steps, ◌≡◌, Bool, true, false, List, [], ◌∷◌, map, position, cond, Option, Some, None, is_some, Result, Ok, Err, OnOk, refl, sym, ap, ◌∙◌, subst, ℕ, get_or, length, IsSome, slice_get, arith, IfSome, IsEquivalence, HashWrites, Drains, AllZip, update_all, keys_of, map-id, is_some-update_all, slice_get-get_or, slice_get-map, option_map, ◌&&◌, ◌<◌, ◌≤◌, ◌++◌, option_map_or, AllZip-get_or, length_all_zip}
 use Rattle.core.proofs.iter.runs.Lists.{at_some}
 use Rattle.core.proofs.iter.runs.Made.{at-is, each, run, to_end}
 use Rattle.std.proofs.lemmas.Map.Keys.{any_passes_from_place}
@@ -9,10 +9,11 @@ use Rattle.std.specs.Map.{update}
 use Rattle.starlark_hash.specs.Hasher.{own_hash}
 use Rattle.starlark_hash.specs.declared.hash_value.StarlarkHashValue.{StarlarkHashValue}
 use Rattle.starlark_hash.specs.Clone.{IsEntryClone}
-use Rattle.starlark_hash.specs.Entries.{Entry, IsSingle, entry_hash, entry_key, is_under, stands_under}
+use Rattle.starlark_hash.specs.declared.hashed.Hashed.{Hashed}
+use Rattle.starlark_hash.specs.Entries.{Entry, IsSingle, entry_hash, entry_key, is_under, match_of, position_of, set_value_at, stands_under}
 use Rattle.starlark_hash.specs.Lookup.{found}
 use Rattle.starlark_hash.specs.Insert.{insert_entry}
-use Rattle.starlark_hash.proofs.PositionLemmas.{position-cons}
+use Rattle.starlark_hash.proofs.PositionLemmas.{position-cons, position-map}
 use Rattle.starlark_small.specs.Lookup.{get}
 use Rattle.starlark_small.specs.Collect.{Collects, Extends, FindsLast, InsertsEach, KeepsOwn, insert_all, own_entry, HasItems, InsertsItems, IsExtended}
 use Rattle.starlark_small.specs.Map.{Map, own_hashed}
@@ -20,8 +21,10 @@ use Rattle.starlark_small.specs.New.{IsEmptyFor}
 use Rattle.starlark_small.specs.Index.{unindexed}
 use Rattle.std.specs.Iterator.SizeHint.{IsWithinCount}
 use Rattle.starlark_small.proofs.Growing.{stepped_from}
+use Rattle.starlark_hash.proofs.EntryLemmas.{length-set_value_at}
+use Rattle.starlark_small.proofs.ValuesWritten.{hashed_keys-set_value_at}
 use Rattle.starlark_small.proofs.CallerOwn.{own-inserted_entries}
-use Rattle.starlark_small.proofs.CallerLookup.{is_some-found}
+use Rattle.starlark_small.proofs.CallerLookup.{is_some-found, under}
 use Rattle.starlark_small.proofs.CallerInsert.{writes-inserted}
 use Rattle.std.proofs.lemmas.Map.Made.{IfSome-update_all}
 
@@ -62,6 +65,36 @@ module _ {K V : Type 0} (eq : K → K → Bool) (laws : IsEquivalence eq) (feeds
     pub finds_collected : (remaining : T → Count) (m : Map K V) → Collects eq (own_entry feeds) steps becomes remaining iter m → FindsLast eq feeds steps becomes iter (λ _. None) m
     unfolding found
     finds_collected remaining m has = inserted_last has.it has.made has.items has.drained [] m has.entries
+
+-- what is found stays, and no entry is lost, whatever is inserted
+module _ {K V : Type 0} (eq : K → K → Bool) where
+  longer-inserted : (es : List (Entry K V)) (key : Hashed K) (value : V) (o : Option ℕ) → length es ≤ length (option_map_or (λ i. set_value_at es i value) o (es ++ (key, value) ∷ []))
+  longer-inserted es key value o = grind (arith, common_steps, length-set_value_at es)
+
+  pub longer-inserted_all : (xs es : List (Entry K V)) → length es ≤ length (insert_all eq es xs)
+  longer-inserted_all [] es = omega arith
+  longer-inserted_all (x ∷ xs) es = omega (arith, longer-inserted es x.0 x.1 (match_of eq es x.0), longer-inserted_all xs (insert_entry eq es x.0 x.1))
+
+  module _ (test : K → Bool) (hash : StarlarkHashValue) where
+    some-before : (es fs : List (Entry K V)) → is_some (position_of hash test es) ≡ true → is_some (position_of hash test (es ++ fs)) ≡ true
+    some-before [] fs is = cc
+    some-before (e ∷ es) fs is = grind (arith, common_steps, position-cons (stands_under hash test) e es, position-cons (stands_under hash test) e (es ++ fs), some-before es fs)
+
+    position_of-set : (es : List (Entry K V)) (i : ℕ) (value : V) → position_of hash test (set_value_at es i value) ≡ position_of hash test es
+    position_of-set es i value =
+        sym (position-map (λ (e : Entry K V). e.0) (under hash test) (set_value_at es i value))
+        ∙ ap (position (under hash test)) (hashed_keys-set_value_at es i value)
+        ∙ position-map (λ (e : Entry K V). e.0) (under hash test) es
+
+    there-inserted : (es : List (Entry K V)) (key : Hashed K) (value : V) (o : Option ℕ) → is_some (found test hash es) ≡ true → is_some (found test hash (option_map_or (λ i. set_value_at es i value) o (es ++ (key, value) ∷ []))) ≡ true
+    there-inserted es key value None is =
+        sym (is_some-found test hash (es ++ (key, value) ∷ [])) ∙ some-before es ((key, value) ∷ []) (is_some-found test hash es ∙ is)
+    there-inserted es key value (Some i) is =
+        sym (is_some-found test hash (set_value_at es i value)) ∙ ap is_some (position_of-set es i value) ∙ is_some-found test hash es ∙ is
+
+    pub there-inserted_all : (xs es : List (Entry K V)) → is_some (found test hash es) ≡ true → is_some (found test hash (insert_all eq es xs)) ≡ true
+    there-inserted_all [] es is = is
+    there-inserted_all (x ∷ xs) es is = there-inserted_all xs (insert_entry eq es x.0 x.1) (there-inserted es x.0 x.1 (match_of eq es x.0) is)
 
 -- an empty map took in all of an iterator's items
 pub collected : {K V A T U E fits : Type 0} {a : Unit {0}} (eq : K → K → Bool) (item : A → Entry K V) (steps : T → Option A → T → Type 0) (becomes : U → T → Type 0) (remaining : T → Count) (iter : U) (it : T) → becomes iter it

@@ -1,10 +1,10 @@
 -- What a write leaves, of a value where one stands and through an entry.
-use Rattle.starlark_hash.proofs.Common.{common_steps, ◌≡◌, ℕ, zero, suc, ◌<◌, Bool, true, List, [], ◌∷◌, length, Some, refl, sym, ap, ◌∙◌, arith, ◌+◌, IsSome, slice_get, Result, Ok, Err, IsErr, IsOk, OnErr, OnOk, ◌≤◌, subst, option_map, IsEquivalence, false≢true}
+use Rattle.starlark_hash.proofs.Common.{common_steps, ◌≡◌, ℕ, zero, suc, ◌<◌, Bool, true, List, [], ◌∷◌, length, Some, refl, sym, ap, ◌∙◌, arith, IsSome, slice_get, Result, Ok, Err, IsErr, IsOk, OnErr, OnOk, ◌≤◌, subst, option_map, IsEquivalence, false≢true}
 use native.Mathlib.Bridge.{le_prop}
 use Rattle.starlark_hash.specs.declared.hashed.Hashed.{Hashed}
 use Rattle.starlark_hash.specs.declared.hash_value.StarlarkHashValue.{StarlarkHashValue}
 use Rattle.starlark_hash.specs.Entries.{Entry, set_value_at, match_of, value_at, with_value, position_of, entry_value}
-use Rattle.starlark_small.proofs.CallerLookup.{written_here, written_there, under, apart_other, found_is, is_some-value_at}
+use Rattle.starlark_small.proofs.CallerLookup.{written_here, written_there, under, apart_other, found_is, is_some-value_at, position_of-found}
 use Rattle.starlark_hash.specs.HashValue.{hashed, key_of, hash_of}
 use Rattle.starlark_hash.specs.Insert.{insert_entry}
 use Rattle.starlark_hash.specs.Lookup.{found, Writes, weight_of}
@@ -17,7 +17,7 @@ use Rattle.starlark_small.specs.declared.entry.VacantEntry.{VacantEntry}
 use Rattle.starlark_small.specs.Map.{Map}
 use Rattle.starlark_small.specs.Lookup.{total_of}
 use Rattle.starlark_small.proofs.CallerOwn.{own-inserted}
-use Rattle.starlark_small.proofs.CallerInsert.{part-at, total-inserted, keys-put, writes-inserted}
+use Rattle.starlark_small.proofs.CallerInsert.{inserts-put, part-at, writes-inserted}
 
 module _ {K V : Type 0} (eq : K → K → Bool) (laws : IsEquivalence eq) (hash : StarlarkHashValue) (passes : K → Bool) (one : (x y : K) → passes x ≡ true → passes y ≡ eq x y) where
   -- a value that is written where one stands
@@ -33,7 +33,7 @@ module _ {K V : Type 0} {g : PartialEq.Ghosts K} (eq : K → K → Bool) (m : Ma
   pub inserted-puts : (e : E.Entry K V g) → IsEntryOf eq m key e → (value : V) (new : Map K V) → Puts e value new → new.entries ≡ insert_entry eq m.entries key value
   unfolding Puts
   inserted-puts (Occupied o) is value new put = grind (arith, common_steps, put, is.0, is.1)
-  inserted-puts (Vacant v) is value new put = grind (arith, common_steps, put.entries, is.0, is.1, is.2)
+  inserted-puts (Vacant v) is value new put = grind (arith, common_steps, put.entries, is.0, position_of-found (eq (key_of key)) (hash_of key) m.entries is.1, is.2)
 
   pub entries-refused : (e : E.Entry K V g) → IsEntryOf eq m key e → (new : Map K V) → Refuses e new → new.entries ≡ m.entries
   unfolding Refuses
@@ -42,7 +42,7 @@ module _ {K V : Type 0} {g : PartialEq.Ghosts K} (eq : K → K → Bool) (m : Ma
 
   pub value-entry : (e : E.Entry K V g) → IsEntryOf eq m key e → entry_value_of e ≡ value_at m.entries (match_of eq m.entries key)
   value-entry (Occupied o) is = ap (λ n. option_map entry_value (slice_get n.entries (occupied_index o))) is.0 ∙ sym (ap (value_at m.entries) is.1)
-  value-entry (Vacant v) is = sym (ap (value_at m.entries) is.1)
+  value-entry (Vacant v) is = sym (ap (value_at m.entries) (position_of-found (eq (key_of key)) (hash_of key) m.entries is.1))
 
 module _ {K V : Type 0} where
   -- a value that is written twice, and one that is written and read
@@ -66,7 +66,7 @@ module _ {K V : Type 0} {g : PartialEq.Ghosts K} where
       → record { map = record o.map { now = written o value }; index = o.index; within = p } ≡ with_entry_value o value
   occupied_written o value p = ap (λ q. record (with_entry_value o value) { within = q }) (le_prop p (with_entry_value o value).within)
 
-  pub puts-inserted : {A E : Type 0} (v : VacantEntry K V g) (r : Result A E) (value : V) (new : Map K V) → OnOk r (IsInserted (vacant_map v).now (lacking_key v) value new) → IsOk r → Puts (Vacant v) value new
+  pub puts-inserted : {A E : Type 0} (v : VacantEntry K V g) (r : Result A E) (value : V) (new : Map K V) → OnOk r (IsInserted (vacant_map v).now new (lacking_key v) value) → IsOk r → Puts (Vacant v) value new
   unfolding Puts
   puts-inserted v (Ok x) value new put ok = put
   puts-inserted v (Err e) value new put ok = absurd (false≢true ok)
@@ -90,18 +90,16 @@ module _ {K V : Type 0} {g : PartialEq.Ghosts K} where
   puts-with_entry_value o u value new put =
       put ∙ ap (λ es. record (occupied_map o).now { entries = es }) (set_twice (occupied_map o).now.entries (occupied_index o) u value)
 
-pub enters-entry : {K V : Type 0} {g : PartialEq.Ghosts K} (eq : K → K → Bool) → IsEquivalence eq → (key : Hashed K) (m : Map K V) (e : E.Entry K V g) → IsEntryOf eq m key e → Enters eq key m e
+pub enters-entry : {K V : Type 0} {g : PartialEq.Ghosts K} (eq : K → K → Bool) → IsEquivalence eq → (key : Hashed K) (m : Map K V) (e : E.Entry K V g) → IsEntryOf eq m key e → Enters eq m key e
 enters-entry eq laws key m e is =
     let there = value-entry eq m key e is in
     let put = inserted-puts eq m key e is in
     record {
       entry = is;
       value = found_is (eq (key_of key)) (hash_of key) m.entries (entry_value_of e) there;
-      entries = put;
       updates = λ value new puts. writes-inserted eq laws m.entries new.entries key value (put value new puts);
-      keys = λ value new puts. keys-put eq m new key value (put value new puts);
+      inserts = λ value new puts. inserts-put eq m new key value (put value new puts);
       own = λ feeds under value new puts. own-inserted feeds eq m.entries new.entries key value (put value new puts) under;
       refused = entries-refused eq m key e is;
       part = λ measure. subst (λ o. weight_of measure o ≤ total_of measure m.entries) (sym there) (part-at measure m.entries (match_of eq m.entries key));
-      total = λ measure value new puts. subst (λ o. total_of measure new.entries + weight_of measure o ≡ total_of measure m.entries + measure value) (sym there) (total-inserted measure eq m.entries new.entries key value (put value new puts));
     }

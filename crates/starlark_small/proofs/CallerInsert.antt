@@ -1,23 +1,19 @@
--- What an insertion leaves under its key, at all other keys, of the length and of what the values weigh together; and what its word
--- is made of, where it was done, where a new key was put last or refused, and where its answer is handed on.
+-- What an insertion leaves under its key, at all other keys, of keys in order, of the length and of the sum of the values.
 use Rattle.starlark_hash.specs.Hasher.{own_hash}
-use Rattle.starlark_hash.proofs.Common.{HashWrites, common_steps, ◌≡◌, ◌+◌, ◌||◌, ◌∙◌, ap, nat_lt, Result, IfOk, Bool, List, [], ◌∷◌, ◌++◌, length, map, Some, None, is_some, refl, arith, Ok, Err, ℕ, zero, suc, ◌<◌, ◌≤◌, Option, slice_get, if◌then◌else◌, option_map, IsEquivalence, map-append}
+use Rattle.starlark_hash.proofs.Common.{HashWrites, common_steps, ◌≡◌, ◌+◌, Bool, List, [], ◌∷◌, ◌++◌, length, map, Some, None, is_some, refl, arith, ℕ, zero, suc, ◌<◌, ◌≤◌, Option, slice_get, if◌then◌else◌, option_map, IsEquivalence, map-append}
 use Rattle.starlark_hash.specs.declared.hashed.Hashed.{Hashed}
 use Rattle.starlark_hash.specs.HashValue.{hashed, key_of, hash_of}
 use Rattle.starlark_hash.specs.Entries.{Entry, set_value_at, match_of, value_at, entry_value}
 use Rattle.starlark_hash.specs.Insert.{insert_entry}
 use Rattle.starlark_hash.proofs.EntryLemmas.{length-set_value_at}
-use Rattle.starlark_small.proofs.CallerLookup.{alike, written_here, inserted_there, pushed_here, under, apart_other, same_key, keys-set_value_at, is_some-found, found_is, none_found}
+use Rattle.starlark_small.proofs.CallerLookup.{alike, written_here, inserted_there, pushed_here, under, apart_other, same_key, keys-set_value_at, is_some-found, position_of-found}
 use Rattle.starlark_hash.specs.Lookup.{found, Writes, weight_of}
-use Rattle.starlark_small.specs.Lookup.{keys, total_of}
+use Rattle.starlark_small.specs.Lookup.{AreOwn, keys, total_of}
 use Rattle.starlark_small.specs.Map.{Map}
 use Rattle.std.proofs.lemmas.List.Sums.{sum_by-cons, sum_by_push}
 use Rattle.starlark_hash.proofs.PositionLemmas.{position-within}
-use Rattle.starlark_hash.specs.declared.no_room.NoRoom.{NoRoom}
-use Rattle.starlark_small.specs.Index.{unindexed}
-use Rattle.starlark_small.specs.Insert.{LeavesMemory, Inserts, PutsLast}
-use Rattle.starlark_small.proofs.Inserted.{LeavesMemory-inserted, LeavesMemory-refused}
-use Rattle.starlark_small.proofs.CallerOwn.{own-inserted, own-same}
+use Rattle.starlark_small.specs.Insert.{Inserts}
+use Rattle.starlark_small.proofs.CallerOwn.{own-inserted}
 
 module _ {K V : Type 0} (eq : K → K → Bool) (laws : IsEquivalence eq) where
   -- an insertion: the key is found with the value that was put, and every other key as before
@@ -66,41 +62,35 @@ module _ {K V : Type 0} (measure : V → ℕ) where
   unfolding found
   total-put eq old new key value put = total-inserted eq old new key value put
 
-module _ {K V A B : Type 0} (eq : K → K → Bool) (laws : IsEquivalence eq) (key : Hashed K) (value : V) (back : B) (tells : Option V → A) (before after : Map K V) where
-  -- by the list that it leaves, where it was done
-  pub inserts-done : (a : A) → a ≡ tells (value_at before.entries (match_of eq before.entries key)) → after.entries ≡ insert_entry eq before.entries key value
-      → LeavesMemory eq before key after → Inserts eq key value back tells before after (Ok a)
-  inserts-done a is put left = assumption (
-    is ∙ ap tells (found_is (eq (key_of key)) (hash_of key) before.entries _ refl),
-    writes-inserted eq laws before.entries after.entries key value put,
-    entries-pushed eq before after key value put,
-    keys-put eq before after key value put,
-    length-put eq before.entries after.entries key value put,
-    λ (measure : V → ℕ). total-put measure eq before.entries after.entries key value put,
-    λ (feeds : K → HashWrites). own-inserted feeds eq before.entries after.entries key value put,
-  )
+-- an insertion where the key is lacking is one at the end
+pub insert_entry-lacking : {K V : Type 0} (eq : K → K → Bool) (key : Hashed K) (value : V) (es new : List (Entry K V)) → found (eq (key_of key)) (hash_of key) es ≡ None → new ≡ es ++ (key, value) ∷ []
+    → new ≡ insert_entry eq es key value
+insert_entry-lacking eq key value es new lacking is = rw (position_of-found (eq (key_of key)) (hash_of key) es lacking) is
 
-  -- a key that is new, put last or refused
-  pub inserts-last : (r : Result A (NoRoom B)) → match_of eq before.entries key ≡ None → before.indexed ≡ (before.indexed || nat_lt unindexed (length before.entries))
-      → IfOk r (λ a. a ≡ tells None) → PutsLast key value back before after r → Inserts eq key value back tells before after r
-  inserts-last (Ok a) lacking short is puts =
-      let put : after.entries ≡ insert_entry eq before.entries key value = rw lacking puts.inserted.entries in
-      inserts-done a (rw lacking is) put (LeavesMemory-inserted eq before key value after lacking puts.inserted)
-  inserts-last (Err e) lacking short is puts = assumption (
-    λ (feeds : K → HashWrites) (under : hash_of key ≡ own_hash feeds (key_of key)). own-same feeds before.entries after.entries puts.refused.entries,
-    none_found (eq (key_of key)) (hash_of key) before.entries lacking,
-    LeavesMemory-refused eq before key short after lacking puts.full puts.refused,
-    puts.refused,
-    puts,
-  )
+-- the list after an insertion
+pub inserts-put : {K V : Type 0} (eq : K → K → Bool) (old new : Map K V) (key : Hashed K) (value : V) → new.entries ≡ insert_entry eq old.entries key value → Inserts eq old new key value
+inserts-put eq old new key value put = record {
+  entries = put;
+  keys = keys-put eq old new key value put;
+  count = length-put eq old.entries new.entries key value put;
+  pushed = entries-pushed eq old new key value put;
+  total = λ measure. total-put measure eq old.entries new.entries key value put;
+}
 
-module _ {K V A B C D : Type 0} (eq : K → K → Bool) (key : Hashed K) (value : V) {back : B} {other : D} {tells : Option V → A} {told : Option V → C} (before after : Map K V) where
-  -- the same insertion, where another thing is answered or comes back
-  pub inserts-ok : (a : A) (b : C) → b ≡ told (value_at before.entries (match_of eq before.entries key)) → Inserts eq key value back tells before after (Ok a) → Inserts eq key value other told before after (Ok b)
-  inserts-ok a b old is = assumption (is, old, old ∙ ap told (found_is (eq (key_of key)) (hash_of key) before.entries _ refl))
+-- what an insertion leaves that was done: by the list that it leaves
+pub record IsDone {K V : Type 0} (eq : K → K → Bool) (old new : Map K V) (key : Hashed K) (value : V) : Type 0 where
+  pub updates : Writes eq (eq (key_of key)) (hash_of key) old.entries new.entries (Some value)
+  pub inserts : Inserts eq old new key value
+  pub own : (feeds : K → HashWrites) → hash_of key ≡ own_hash feeds (key_of key) → AreOwn feeds old → AreOwn feeds new
 
-  pub inserts-err : (e : NoRoom B) (d : NoRoom D) → d.0 ≡ other → Inserts eq key value back tells before after (Err e) → Inserts eq key value other told before after (Err d)
-  inserts-err e d back_is is = assumption (is, back_is)
+module _ {K V : Type 0} (eq : K → K → Bool) (laws : IsEquivalence eq) (old new : Map K V) (key : Hashed K) (value : V) where
+  pub is-done : new.entries ≡ insert_entry eq old.entries key value → IsDone eq old new key value
+  is-done put = record {
+    updates = writes-inserted eq laws old.entries new.entries key value put;
+    inserts = inserts-put eq old new key value put;
+    own = λ feeds. own-inserted feeds eq old.entries new.entries key value put;
+  }
 
--- what an insertion's answer that is handed on wants
-pub ruleset handed_on = (inserts-ok, inserts-err)
+  -- where the key is lacking
+  pub is-appended : found (eq (key_of key)) (hash_of key) old.entries ≡ None → new.entries ≡ old.entries ++ (key, value) ∷ [] → IsDone eq old new key value
+  is-appended lacking is = is-done (insert_entry-lacking eq key value old.entries new.entries lacking is)

@@ -1,10 +1,15 @@
 -- What a walk shows: its values, each of which is found, and their number; and which keys are found after one that writes.
-use Rattle.starlark_hash.proofs.Common.{common_steps, slice_get-map, ◌≡◌, ℕ, Bool, List, [], ◌∷◌, map, Option, Some, None, slice_get, refl, sym, ap, ◌∙◌, subst, is_some, arith, IfSome, IsEquivalence, option_map, length-map}
+use Rattle.std.proofs.lemmas.Bool.{false_from_ne_true}
+use Rattle.starlark_hash.specs.HashValue.{hash_number}
+use Rattle.starlark_hash.specs.Hasher.{own_hash}
+use Rattle.starlark_small.specs.Lookup.{AreOwnEntries}
+use Rattle.starlark_small.specs.Map.{Map}
+use Rattle.starlark_hash.proofs.Common.{common_steps, get_or, true, nat_tests, slice_get-map, ◌≡◌, ℕ, Bool, List, [], ◌∷◌, map, Option, Some, None, slice_get, refl, sym, ap, ◌∙◌, subst, is_some, arith, IfSome, IsEquivalence, option_map, length-map}
 use Rattle.starlark_vecmap.proofs.Views.{values_of-pair_of}
 use Rattle.starlark_hash.specs.declared.hash_value.StarlarkHashValue.{StarlarkHashValue}
 use Rattle.starlark_hash.specs.Entries.{Entry, IsSingle, entry_hash, entry_key, entry_value, position_of, value_at}
 use Rattle.starlark_hash.specs.Lookup.{found}
-use Rattle.starlark_small.specs.Iter.{AreFound, IsOwnOf}
+use Rattle.starlark_small.specs.Iter.{AreFound, HasDistinctKeys, IsOwnOf}
 use Rattle.starlark_small.proofs.CallerRemove.{found-placed, own-placed}
 use Rattle.starlark_hash.proofs.PositionLemmas.{position-cons}
 use Rattle.starlark_vecmap.specs.EntryList.{with_values}
@@ -24,6 +29,17 @@ module _ {K V : Type 0} (eq : K → K → Bool) (laws : IsEquivalence eq) (es : 
         (λ v at. (at.0, at.1.0, slice_get_read (map entry_value es) _ at.0 v refl at.1.0 at.1.1))),
     (λ i. rw (slice_get-map entry_value es i) (each-found i (slice_get es i) refl)),
   )
+
+-- no two keys are equal, where no two entries are alike and each key is under its own hash
+pub has-distinct_keys : {K V : Type 0} (eq : K → K → Bool) (m : Map K V) → IsSingle eq m.entries → HasDistinctKeys eq m
+unfolding AreOwnEntries
+has-distinct_keys eq m single feeds alike own = λ i j d before below.
+    let es = m.entries in
+    let x = get_or es i d in
+    let y = get_or es j d in
+    false_from_ne_true (eq (entry_key x) (entry_key y)) (λ same.
+    let one : entry_hash y ≡ entry_hash x = own j d below ∙ sym (λ k. own_hash (λ _. alike (entry_key x) (entry_key y) same k) (entry_key x)) ∙ sym (own i d (omega (arith, before, below))) in
+    grind (arith, nat_tests, ap hash_number one, single i j d before below, same))
 
 module _ {K V : Type 0} (test : K → Bool) (hash : StarlarkHashValue) where
   position-with_values : (es ws : List (Entry K V)) → position_of hash test (with_values es ws) ≡ position_of hash test es

@@ -1,16 +1,16 @@
 -- What a look-up finds: the first index at which a list passes a test, as the list changes; the value under a key; and what the words
 -- on look-ups say.
-use Rattle.starlark_hash.proofs.Common.{common_steps, option_map_or, ◌≡◌, ℕ, suc, ◌<◌, Bool, true, false, eqb, List, [], ◌∷◌, ◌++◌, length, get_or, position, Option, Some, None, refl, sym, ap, ◌∙◌, arith, zero, map, is_some, slice_get, option_map, nat_tests, get_or_from_slice_get, slice_get-map, slice_get_within, ◌&&◌, IfSome, IsEquivalence, Bor}
-use Rattle.starlark_hash.proofs.PositionLemmas.{position-cons, position-within}
+use Rattle.starlark_hash.proofs.Common.{common_steps, option_map_or, ◌≡◌, ℕ, suc, ◌<◌, Bool, true, false, eqb, List, [], ◌∷◌, ◌++◌, length, get_or, position, Option, Some, None, refl, sym, ap, ◌∙◌, arith, zero, map, is_some, slice_get, option_map, nat_tests, get_or_from_slice_get, slice_get-map, slice_get_within, ◌&&◌, IfSome, IsEquivalence, Contains, and_parts, get_or-map, length-map, same_Some}
+use Rattle.starlark_hash.proofs.PositionLemmas.{position-cons, position-passes, position-within}
 use Rattle.std.proofs.lemmas.Option.{gets}
 pub use Rattle.std.proofs.Math.Bool.{and-false as and_false}
 use Rattle.starlark_hash.specs.declared.hashed.Hashed.{Hashed}
 use Rattle.starlark_hash.specs.declared.hash_value.StarlarkHashValue.{StarlarkHashValue}
 use Rattle.starlark_hash.specs.HashValue.{hash_of, key_of}
-use Rattle.starlark_hash.specs.Entries.{Entry, entry_key, set_value_at, with_value, without, value_at, match_of, position_of, entry_at, entry_value, pair_of, stands_under}
+use Rattle.starlark_hash.specs.Entries.{Entry, entry_key, set_value_at, with_value, without, value_at, match_of, position_of, entry_at, entry_value, is_under, pair_of, stands_under}
 use Rattle.starlark_hash.specs.Lookup.{found, found_key}
 use Rattle.std.specs.List.{IsAmong}
-use Rattle.starlark_small.specs.Lookup.{FindsEntry, FindsPair, FindsValue, NamesIndex, TellsPresence}
+use Rattle.starlark_small.specs.Lookup.{HasKey, NamesIndex}
 use Rattle.starlark_small.specs.Map.{Map}
 
 module _ {X : Type 0} (p : X → Bool) where
@@ -128,38 +128,66 @@ value-among es (Some i) (Some v) is =
     let at : slice_get (map entry_value es) i ≡ Some v = slice_get-map entry_value es i ∙ sym is in
     (i, (slice_get_within (map entry_value es) i v at, sym (get_or_from_slice_get (map entry_value es) i v v at)))
 
-module _ {K V : Type 0} (test : K → Bool) (hash : StarlarkHashValue) (m : Map K V) where
-  abbrev there : Option ℕ
-  there = position_of hash test m.entries
+-- a value that is written where it was found leaves the list as it was
+set_value_at-value : {K V : Type 0} (es : List (Entry K V)) (i : ℕ) (w : V) → value_at es (Some i) ≡ Some w → set_value_at es i w ≡ es
+set_value_at-value [] i w is = refl
+set_value_at-value (e ∷ es) zero w is = ap (λ v. (e.0, v) ∷ es) (sym (same_Some (entry_value e) w is))
+set_value_at-value (e ∷ es) (suc i) w is = ap (λ l. e ∷ l) (set_value_at-value es i w is)
 
+pub set_value_at-found : {K V : Type 0} (test : K → Bool) (hash : StarlarkHashValue) (es : List (Entry K V)) (i : ℕ) (w : V) → position_of hash test es ≡ Some i → found test hash es ≡ Some w → set_value_at es i w ≡ es
+unfolding found
+set_value_at-found test hash es i w at is = set_value_at-value es i w (sym (ap (value_at es) at) ∙ is)
+
+module _ {K V : Type 0} (test : K → Bool) (hash : StarlarkHashValue) where
+  -- a key of the list passes where there is an index
+  pub has-key : (es : List (Entry K V)) (i : ℕ) → position_of hash test es ≡ Some i → (key : K) × Contains (map entry_key es) key × (test key ≡ true)
+  has-key [] i at = cc
+  has-key (e ∷ es) i at =
+      let p = stands_under hash test in
+      let below = position-within p (e ∷ es) i at in
+      let here = get_or (e ∷ es) i e in (
+        entry_key here,
+        (i, omega (arith, below, length-map (e ∷ es) (entry_key {K = K} {V = V})), get_or-map entry_key (e ∷ es) i e (entry_key here) below),
+        (and_parts (is_under hash here) (test (entry_key here)) (position-passes p (e ∷ es) i e at)).1,
+      )
+
+-- What is found, by index: `found` and `found_key` are read at `position_of`.
+module _ {K V : Type 0} (test : K → Bool) (hash : StarlarkHashValue) (es : List (Entry K V)) where
+  pub found-value_at : found test hash es ≡ value_at es (position_of hash test es)
+  unfolding found
+  found-value_at = refl
+
+  pub found_key-entry_at : found_key test hash es ≡ option_map entry_key (entry_at es (position_of hash test es))
+  unfolding found_key
+  found_key-entry_at = refl
+
+  -- there is no index where nothing is found
+  pub position_of-found : found test hash es ≡ None → position_of hash test es ≡ None
+  position_of-found is = grind (arith, common_steps, is_some-found test hash es)
+
+  -- the pair at the index, where the stored key and the value were found
+  pub entry_at-found : (o : Option (K × V)) → option_map (λ p. p.0) o ≡ found_key test hash es → option_map (λ p. p.1) o ≡ found test hash es → o ≡ option_map pair_of (entry_at es (position_of hash test es))
+  unfolding found found_key
+  entry_at-found o key value = grind (arith, common_steps)
+
+  -- what is found is among the values
+  pub IsAmong-found : IfSome (found test hash es) (λ v. IsAmong (map entry_value es) v)
+  IsAmong-found = value-among es (position_of hash test es) (found test hash es) found-value_at
+
+  -- the key at the index is the one that is found
+  pub finds-key : (o : Option K) → o ≡ option_map entry_key (entry_at es (position_of hash test es)) → o ≡ found_key test hash es
+  unfolding found_key
+  finds-key o is = is
+
+module _ {K V : Type 0} (test : K → Bool) (hash : StarlarkHashValue) (m : Map K V) where
   -- the index that a test names is where a value is found
-  pub names-index : (o : Option ℕ) → o ≡ there → NamesIndex test hash m o
+  pub names-index : (o : Option ℕ) → o ≡ position_of hash test m.entries → NamesIndex test hash m o
   names-index o is = record {
     index = is;
     found = ap is_some is ∙ is_some-found test hash m.entries;
     within = grind (arith, common_steps, position-within (stands_under hash test) m.entries);
+    key = elim o as (λ o. o ≡ position_of hash test m.entries → IfSome o (λ _. HasKey test m)) [ None ↦ λ is. tt | Some i ↦ λ is. has-key test hash m.entries i (sym is) ] is;
   }
 
-  -- there is something where the test names an index
-  pub tells-presence : (b : Bool) → b ≡ is_some there → TellsPresence test hash m b
-  tells-presence b is = record { index = is; found = is ∙ is_some-found test hash m.entries }
-
-  -- what stands at the index that a test names is what is found
-  pub finds-value : (o : Option V) → o ≡ value_at m.entries there → FindsValue test hash m o
-  finds-value o is = record {
-    value = is;
-    found = found_is test hash m.entries o is;
-    member = value-among m.entries there o is;
-    absent = grind (arith, common_steps, is_some-value_at hash test m.entries);
-  }
-
-  pub finds-pair : (o : Option (K × V)) → o ≡ option_map pair_of (entry_at m.entries there) → FindsPair test hash m o
-  unfolding found found_key
-  finds-pair o is = record { pair = is; stored = grind (arith, common_steps); found = grind (arith, common_steps) }
-
-  pub finds-entry : (o : Option (ℕ × Bor K × Bor V)) → option_map (λ e. e.0) o ≡ there → option_map (λ e. (e.1.now, e.2.now)) o ≡ option_map pair_of (entry_at m.entries there) → FindsEntry test hash m o
-  unfolding found found_key
-  finds-entry o at is = record { index = at; pair = is; stored = grind (arith, common_steps); found = grind (arith, common_steps) }
-
--- what a look-up wants
-pub ruleset look_ups = (names-index, tells-presence, finds-value, finds-pair, finds-entry)
+-- what a look-up wants, and what layers say of it by index
+pub ruleset look_ups = (names-index, found_is, finds-key, found-value_at, found_key-entry_at, is_some-found, position_of-found, entry_at-found)

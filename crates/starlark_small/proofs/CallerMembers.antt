@@ -1,6 +1,6 @@
 -- What holds of all keys, values and pairs of a map, and what is among them, after an insertion, a removal and a write by index.
 -- Each takes the record that is the call's clause.
-use Rattle.starlark_hash.proofs.Common.{and_parts, take, drop, length-set, set, length-map, get_or-set_same, All-append, All-contains, All-weaker, ◌≡◌, ℕ, suc, ◌<◌, Bool, true, eqb, List, [], ◌∷◌, ◌++◌, length, map, get_or, remove, Ok, Option, Some, None, refl, sym, ap, subst, arith, All, Contains, option_map_or, IsEquivalence, map-append, All-push}
+use Rattle.starlark_hash.proofs.Common.{and_parts, take, drop, length-set, set, length-map, get_or-set_same, All-append, All-contains, All-weaker, ◌≡◌, ℕ, suc, ◌<◌, Bool, true, eqb, List, [], ◌∷◌, ◌++◌, length, map, get_or, remove, Option, Some, None, refl, sym, ap, subst, arith, All, Contains, option_map_or, IsEquivalence, map-append, All-push}
 use Rattle.std.proofs.lemmas.List.Elements.{All-take, All-drop, All-set, All-contains_itself, Contains-append_left, Contains-push}
 use mathlib.Core.Logic.{◌⊎◌, inl, inr}
 use Rattle.starlark_vecmap.proofs.Views.{map-remove}
@@ -45,7 +45,7 @@ module _ {K V X : Type 0} (f : Entry K V → X) where
   all-written P (e ∷ es) i w all p = rw (map-set_value_at (e ∷ es) i w e) (All-set P (map f (e ∷ es)) i (f ((get_or (e ∷ es) i e).0, w)) (p e) all)
 
 -- An insertion puts in a new key last, or the value at a key that stays.
-module _ {K V A B : Type 0} {eq : K → K → Bool} {key : Hashed K} {value : V} {back : B} {tells : Option V → A} {before after : Map K V} {was : A} (inserts : Inserts eq key value back tells before after (Ok was)) where
+module _ {K V : Type 0} {eq : K → K → Bool} {before after : Map K V} {key : Hashed K} {value : V} (inserts : Inserts eq before after key value) where
   by-index : (F : List (Entry K V) → Type 0) → F (before.entries ++ (key, value) ∷ []) → ((i : ℕ) → match_of eq before.entries key ≡ Some i → F (set_value_at before.entries i value)) → F after.entries
   by-index F last there = subst F (sym inserts.entries)
       ((elim (match_of eq before.entries key) as (λ o. match_of eq before.entries key ≡ o → F (option_map_or (λ i. set_value_at before.entries i value) o (before.entries ++ (key, value) ∷ []))) [
@@ -117,12 +117,12 @@ module _ {K V X : Type 0} (f : Entry K V → X) {eq : K → K → Bool} {old new
     pub Contains-removes : (x : X) → Contains (map f new.entries) x → Contains (map f old.entries) x
     Contains-removes x = from-before (map f old.entries) (map f new.entries) x All-removes
 
-  module _ {index : ℕ} (removes : RemovesAt eq index old new) where
-    pub All-removes_at : (P : X → Type 0) → All P (map f old.entries) → All P (map f new.entries)
-    All-removes_at P all = subst (λ es. All P (map f es)) (sym removes.entries) (all-without f P old.entries (Some index) all)
+module _ {K V X : Type 0} (f : Entry K V → X) {old new : Map K V} {index : ℕ} (removes : RemovesAt old new index) where
+  pub All-removes_at : (P : X → Type 0) → All P (map f old.entries) → All P (map f new.entries)
+  All-removes_at P all = subst (λ es. All P (map f es)) (sym removes.entries) (all-without f P old.entries (Some index) all)
 
-    pub Contains-removes_at : (x : X) → Contains (map f new.entries) x → Contains (map f old.entries) x
-    Contains-removes_at x = from-before (map f old.entries) (map f new.entries) x All-removes_at
+  pub Contains-removes_at : (x : X) → Contains (map f new.entries) x → Contains (map f old.entries) x
+  Contains-removes_at x = from-before (map f old.entries) (map f new.entries) x All-removes_at
 
 -- A value that is written at an index, as a loan of `get_mut` leaves it, moves no key.
 module _ {K V : Type 0} (old new : Map K V) (index : Option ℕ) (w : V) (is : new ≡ record old { entries = with_value old.entries index w }) where

@@ -63,6 +63,11 @@ module _ {K V : Type 0} (feeds : K → HashWrites) where
       let x = entry_key (get_or es k d) in
       is.0 ∙ own k d inside ∙ (λ i. own_hash (λ _. alike x (entry_key (get_or fs k d)) is.1 i) x)
 
+  -- a value that is written leaves hashes and keys
+  pub own-set_value_at : (es : List (Entry K V)) (i : ℕ) (w : V) → AreOwnEntries feeds es → AreOwnEntries feeds (set_value_at es i w)
+  unfolding AreOwnEntries
+  own-set_value_at es i w own = λ k d below. simp set_value_at-key (own k d (omega (arith, below, length-set_value_at es i w)))
+
   pub own-removed : (old new : List (Entry K V)) (i : ℕ) → new ≡ remove old i → AreOwnEntries feeds old → AreOwnEntries feeds new
   unfolding AreOwnEntries
   own-removed old new i put own = rw put (All-append is_own (take i old) (drop (suc i) old) (All-take is_own i old own) (All-drop is_own (suc i) old own))

@@ -1,8 +1,10 @@
 -- How the capacity follows entries that come one after the other.
-use Rattle.starlark_hash.proofs.Common.{inl, inr, ◌≡◌, ℕ, zero, suc, ◌+◌, ◌-◌, ◌*◌, ◌^◌, ◌≤◌, max, min, List, [], ◌∷◌, ◌++◌, length, drop, Option, Some, None, refl, sym, ap, ◌∙◌, subst, arith, Bool, IsSome, nat_lt, if◌then◌else◌, option_map_or, nat_tests, length-drop, length_push}
+use Rattle.starlark_hash.proofs.Common.{inl, inr, ◌≡◌, ℕ, zero, suc, ◌+◌, ◌-◌, ◌*◌, ◌^◌, ◌≤◌, max, min, List, [], ◌∷◌, ◌++◌, length, drop, Option, Some, None, refl, sym, ap, ◌∙◌, arith, Bool, nat_lt, if◌then◌else◌, option_map_or, nat_tests, length-drop, length_push}
 use Rattle.starlark_hash.specs.declared.hashed.Hashed.{Hashed}
 use Rattle.starlark_hash.specs.Entries.{match_of, set_value_at}
+use Rattle.starlark_hash.specs.HashValue.{hash_of, key_of}
 use Rattle.starlark_hash.proofs.EntryLemmas.{length-set_value_at}
+use Rattle.starlark_small.proofs.CallerLookup.{is_some-found}
 use Rattle.starlark_small.specs.Memory.{StaysOrGrows, stepped_capacity}
 use Rattle.starlark_small.specs.Insert.{LeavesMemory}
 use Rattle.starlark_small.specs.Map.{Map}
@@ -56,7 +58,7 @@ module _ {K V : Type 0} where
   module _ (first mid last : Map K V) (longer : length first.entries ≤ length mid.entries) (before : mid.capacity ≡ stepped_capacity first mid) where
     -- an entry was inserted
     pub stepped_inserted : (eq : K → K → Bool) (key : Hashed K) (value : V) (o : Option ℕ) → match_of eq mid.entries key ≡ o → last.entries ≡ option_map_or (λ i. set_value_at mid.entries i value) o (mid.entries ++ (key, value) ∷ [])
-        → LeavesMemory eq mid key last → last.capacity ≡ stepped_capacity first last
+        → LeavesMemory eq mid last key → last.capacity ≡ stepped_capacity first last
     unfolding steps
     stepped_inserted eq key value None lacks put leaves =
         let n = length mid.entries - length first.entries in
@@ -64,7 +66,7 @@ module _ {K V : Type 0} where
         let more : length last.entries - length first.entries ≡ suc n = omega (arith, by_one, longer) in
         grind (arith, stepped_steps first last, stepped_steps first mid, more, longer, leaves.grown (omega (arith, by_one)))
     stepped_inserted eq key value (Some i) is put leaves =
-        let stays = ap (λ m. m.capacity) (leaves.replaced (subst (λ o. IsSome o) (sym is) refl)) in
+        let stays = ap (λ m. m.capacity) (leaves.replaced (grind (arith, is_some-found (eq (key_of key)) (hash_of key) mid.entries, is))) in
         grind (arith, stepped_steps first mid, stepped_steps first last, length-set_value_at mid.entries i value)
 
     -- one was refused

@@ -2,8 +2,9 @@
 use Rattle.starlark_hash.proofs.Common.{common_steps, ◌≡◌, ℕ, ◌<◌, Bool, List, [], ◌∷◌, ◌++◌, length, slice_get, Some, None, is_some, ap, arith, refl, ◌||◌, nat_lt, option_map, length_push}
 use Rattle.starlark_small.proofs.CallerRemove.{last_of}
 use Rattle.starlark_hash.specs.declared.hashed.Hashed.{Hashed}
-use Rattle.starlark_hash.specs.HashValue.{key_of}
-use Rattle.starlark_hash.specs.Entries.{Entry, match_of, pair_of, set_value_at, value_at}
+use Rattle.starlark_hash.specs.HashValue.{hash_of, key_of}
+use Rattle.starlark_hash.specs.Lookup.{found}
+use Rattle.starlark_hash.specs.Entries.{Entry, pair_of, set_value_at, value_at}
 use Rattle.starlark_hash.proofs.EntryLemmas.{length-set_value_at}
 use Rattle.starlark_small.specs.Index.{unindexed}
 use Rattle.starlark_small.specs.Insert.{IsInserted, IsRefused, LeavesMemory}
@@ -19,11 +20,11 @@ module _ {K V : Type 0} where
   pushed_value [] key v w = refl
   pushed_value (e ∷ es) key v w = ap (λ l. e ∷ l) (pushed_value es key v w)
 
-module _ {K V : Type 0} (old new : Map K V) (key : Hashed K) (value : V) (i : ℕ) (at_end : i ≡ length old.entries) (put : IsInserted old key value new) where
+module _ {K V : Type 0} (old new : Map K V) (key : Hashed K) (value : V) (i : ℕ) (at_end : i ≡ length old.entries) (put : IsInserted old new key value) where
   pub within_inserted : i < length new.entries
   within_inserted = omega (arith, at_end, ap length put.entries, length_push old.entries (key, value))
 
-  pub inserted_written : (w : V) → IsInserted old key w (with_value_at new i w)
+  pub inserted_written : (w : V) → IsInserted old (with_value_at new i w) key w
   inserted_written w = grind (arith, put.entries, put.spare, put.room, put.capacity, put.indexed, pushed_value old.entries key value w, length-set_value_at new.entries i w)
 
   pub value_inserted : (v : V) → value_at new.entries (Some i) ≡ Some v → v ≡ value
@@ -35,15 +36,15 @@ module _ {K V : Type 0} (old new : Map K V) (key : Hashed K) (value : V) (i : �
 -- what is left of the memory where nothing grew
 module _ {K V : Type 0} (eq : K → K → Bool) (old : Map K V) (key : Hashed K) (short : old.indexed ≡ (old.indexed || nat_lt unindexed (length old.entries))) where
   -- a key was there: its value was written
-  pub LeavesMemory-written : (i : ℕ) (value : V) → LeavesMemory eq old key (with_value_at old i value)
+  pub LeavesMemory-written : (i : ℕ) (value : V) → LeavesMemory eq old (with_value_at old i value) key
   LeavesMemory-written i value = grind (arith, length-set_value_at old.entries i value)
 
   -- a new key was refused
-  pub LeavesMemory-refused : (new : Map K V) → match_of eq old.entries key ≡ None → old.room ≡ 0 → IsRefused old new → LeavesMemory eq old key new
+  pub LeavesMemory-refused : (new : Map K V) → found (eq (key_of key)) (hash_of key) old.entries ≡ None → old.room ≡ 0 → IsRefused old new → LeavesMemory eq old new key
   LeavesMemory-refused new lacking full refused =
       grind (arith, ap is_some lacking, refused.room, refused.capacity, refused.entries, refused.indexed)
 
 -- what is left of the memory where a new key went in
 module _ {K V : Type 0} (eq : K → K → Bool) (old : Map K V) (key : Hashed K) where
-  pub LeavesMemory-inserted : (value : V) (new : Map K V) → match_of eq old.entries key ≡ None → IsInserted old key value new → LeavesMemory eq old key new
+  pub LeavesMemory-inserted : (value : V) (new : Map K V) → found (eq (key_of key)) (hash_of key) old.entries ≡ None → IsInserted old new key value → LeavesMemory eq old new key
   LeavesMemory-inserted value new lacking put = grind (arith, ap is_some lacking, put.entries, put.spare, put.room, put.capacity, put.indexed, length_push old.entries (key, value))

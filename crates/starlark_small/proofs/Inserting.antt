@@ -61,7 +61,7 @@ filled_none first had = record { entries = refl; room = omega arith; added = ome
 
 -- a further item is tried
 module _ {K V A : Type 0} {eq : K → K → Bool} {item : A → Entry K V} {all : ℕ} {first : Map K V} {seen : List A} {mid : Map K V} (last : Map K V) (held : IsFilled eq item all first seen mid)
-    {left after : ℕ} (counted : length seen + left ≤ all) (fewer : after < left) (x : A) (leaves : LeavesMemory eq mid (item x).0 last) where
+    {left after : ℕ} (counted : length seen + left ≤ all) (fewer : after < left) (x : A) (leaves : LeavesMemory eq mid last (item x).0) where
   -- it went in
   pub filled_more : last.entries ≡ insert_entry eq mid.entries (item x).0 (item x).1 → IsFilled eq item all first (seen ++ x ∷ []) last
   filled_more put =

@@ -1,15 +1,15 @@
 -- The table and the cells of an index: what they keep, and as which hashes they are seen, after each call.
-use Rattle.starlark_hash.proofs.Common.{◌≡◌, ℕ, ◌+◌, ◌-◌, ◌<◌, ◌≤◌, ◌^◌, List, [], ◌∷◌, ◌++◌, length, map, get_or, take, Option, Some, None, refl, sym, ap, subst, ◌∙◌, arith, Bool, nat_eq, IsPermutation, filter, remove, reverse, slice_index, All, Contains, set, length-append, length-map, length-reverse, length-take, length-remove, IsPermutation-map, IsPermutation-refl, IsPermutation-trans, length_permutation}
+use Rattle.starlark_hash.proofs.Common.{◌≡◌, ℕ, ◌+◌, ◌-◌, ◌<◌, ◌≤◌, ◌^◌, List, [], ◌∷◌, ◌++◌, length, map, get_or, take, Option, Some, None, refl, sym, ap, subst, ◌∙◌, arith, Bool, nat_eq, IsPermutation, filter, remove, reverse, slice_index, All, Contains, IsSome, is_some, set, length-append, length-map, length-reverse, length-take, length-remove, IsPermutation-map, IsPermutation-refl, IsPermutation-trans, length_permutation}
 use Rattle.std.proofs.Common.{option_map}
 use Rattle.std.proofs.lemmas.List.{length-set}
 use Rattle.std.proofs.lemmas.Simd.{map-map}
 use Rattle.starlark_table.proofs.PairBags.{IsPermutation-filter}
 use Rattle.starlark_table.proofs.TableLemmas.{items-items_under}
-use Rattle.starlark_table.specs.Table.{Table, filled, items_under, members, table_capacity, table_len}
+use Rattle.starlark_table.specs.Table.{Table, filled, items_under, member_at, members, table_capacity, table_len}
 use Rattle.starlark_vec2.specs.Sort.{Moves}
 use Rattle.starlark_small.specs.Hashes.{Hashes, indices_under, numbered}
 use Rattle.starlark_small.specs.Slots.{IsSited, KeepsIndices, RenamesEach, StandsBut, StandsOnce, hash_in, hashes_in, lowered, renaming}
-use Rattle.starlark_small.proofs.Numbered.{bag-noted, bag-renamed, filled-renamed, hashes-back, held, left-bag, left-none, left-there, length-moved, members-below, members-count, stands-once, numbered-moved, numbered_from-remove, numbered_from-remove_last, numbered-reverse}
+use Rattle.starlark_small.proofs.Numbered.{bag-noted, bag-renamed, filled-renamed, hashes-back, held, left-bag, left-none, left-there, length-moved, members-below, members-count, named-there, stands-once, numbered-moved, numbered_from-remove, numbered_from-remove_last, numbered-reverse}
 use Rattle.starlark_small.proofs.Slots.{sited-last, sited-lowered, sited-none, sited-put, sited-reversed}
 
 pub length-hashes_in : (slots : List (Option (ℕ × ℕ))) (cells : List ℕ) → length (hashes_in slots cells) ≡ length cells
@@ -28,11 +28,18 @@ pub record Keeps (hs : List ℕ) (free : ℕ) (t : Table ℕ) (cells : List ℕ)
   pub list : hashes_in t.slots cells ≡ hs
   pub room : t.room ≡ free
 
-keeps_by : (hs : List ℕ) (room : ℕ) (t : Table ℕ) (cells : List ℕ) (memory : ℕ) → IsPermutation (numbered hs) (members t) → IsSited cells t.slots → length cells ≡ length hs → table_capacity t ≤ memory → length t.slots ≤ 2 ^ 32 → table_capacity t ≤ 2 ^ 32 → t.room ≡ room
+-- there are slots, and 32 bits number them
+abbrev pub AreNumbered : ℕ → Type 0
+AreNumbered n = (0 < n) × (n ≤ 2 ^ 32)
+
+numbered-alike : (n m : ℕ) → n ≡ m → 0 < m → m ≤ 2 ^ 32 → AreNumbered n
+numbered-alike n m same some few = (omega (arith, same, some), omega (arith, same, few))
+
+keeps_by : (hs : List ℕ) (room : ℕ) (t : Table ℕ) (cells : List ℕ) (memory : ℕ) → IsPermutation (numbered hs) (members t) → IsSited cells t.slots → length cells ≡ length hs → memory ≡ table_capacity t → AreNumbered (length t.slots) → table_capacity t ≤ 2 ^ 32 → t.room ≡ room
     → Keeps hs room t cells memory
-keeps_by hs room t cells memory bag sited long spare few narrow free =
+keeps_by hs room t cells memory bag sited long tight few narrow free =
     let back = hashes-back hs t bag cells long sited in
-    record { keeps = record { bag = subst (λ l. IsPermutation (numbered l) (members t)) (sym back) bag; sited = sited; even = long ∙ sym (members-count hs t bag); spare = spare; few = few; narrow = narrow }; list = back; room = free }
+    record { keeps = record { bag = subst (λ l. IsPermutation (numbered l) (members t)) (sym back) bag; sited = sited; even = long ∙ sym (members-count hs t bag); tight = tight; some = few.0; few = few.1; narrow = narrow }; list = back; room = free }
 
 -- what they are seen as
 abbrev pub view_of : Table ℕ → List ℕ → Hashes
@@ -42,10 +49,10 @@ pub seen : (hs : List ℕ) (room : ℕ) (t : Table ℕ) (cells : List ℕ) (memo
 seen hs room t cells memory k = λ j. record { list = k.list j; room = k.room j }
 
 -- no index
-pub keeps-none : (t : Table ℕ) (cells : List ℕ) (memory : ℕ) → members t ≡ [] → cells ≡ [] → t.room ≤ memory → length t.slots ≤ 2 ^ 32 → t.room ≤ 2 ^ 32 → Keeps [] t.room t cells memory
-keeps-none t cells memory none is spare few narrow =
+pub keeps-none : (t : Table ℕ) (cells : List ℕ) (memory : ℕ) → members t ≡ [] → cells ≡ [] → memory ≡ t.room → AreNumbered (length t.slots) → t.room ≤ 2 ^ 32 → Keeps [] t.room t cells memory
+keeps-none t cells memory none is tight few narrow =
     let empty = ap length none in
-    keeps_by [] t.room t cells memory (subst (IsPermutation []) (sym none) (IsPermutation-refl [])) (subst (λ l. IsSited l t.slots) (sym is) (sited-none t none)) (ap length is) (omega (arith, empty, spare)) few (omega (arith, empty, narrow)) refl
+    keeps_by [] t.room t cells memory (subst (IsPermutation []) (sym none) (IsPermutation-refl [])) (subst (λ l. IsSited l t.slots) (sym is) (sited-none t none)) (ap length is) (omega (arith, empty, tight)) few (omega (arith, empty, narrow)) refl
 
 module _ (old : Table ℕ) (cells : List ℕ) (memory : ℕ) (k : KeepsIndices old cells memory) where
   abbrev hs : List ℕ
@@ -54,27 +61,32 @@ module _ (old : Table ℕ) (cells : List ℕ) (memory : ℕ) (k : KeepsIndices o
   pub indices-below : All (λ m. m.1 < length cells) (members old)
   indices-below = subst (λ n. All (λ m. m.1 < n) (members old)) (length-hashes_in old.slots cells) (members-below hs old k.bag)
 
+  -- each index stands in the slot that its cell names
+  pub stands-named : (i : ℕ) → i < length cells → IsSome (member_at old (get_or cells i 0))
+  stands-named i inside =
+      ap is_some (named-there cells old (get_or hs i 0) i k.sited (held hs old k.bag i (omega (arith, inside, length-hashes_in old.slots cells))))
+
   -- an index went last
-  pub keeps-noted : (new : Table ℕ) (after : List ℕ) (h x slot space : ℕ) → after ≡ cells ++ slot ∷ [] → memory ≤ space → x ≡ length cells → slot < length old.slots → new.slots ≡ set old.slots slot (Some (h, x)) → IsPermutation ((h, x) ∷ members old) (members new) → table_capacity new ≡ table_capacity old
+  pub keeps-noted : (new : Table ℕ) (after : List ℕ) (h x slot space : ℕ) → after ≡ cells ++ slot ∷ [] → space ≡ memory → x ≡ length cells → slot < length old.slots → new.slots ≡ set old.slots slot (Some (h, x)) → IsPermutation ((h, x) ∷ members old) (members new) → table_capacity new ≡ table_capacity old
       → 0 < old.room → Keeps (hs ++ h ∷ []) (old.room - 1) new after space
   keeps-noted new after h x slot space put more last within is added room some =
       let longer = length_permutation ((h, x) ∷ members old) (members new) added in
       let long = length-hashes_in old.slots cells in
       keeps_by (hs ++ h ∷ []) (old.room - 1) new after space (bag-noted hs h x old new (omega (arith, last, long)) k.bag added)
       (rw (put, is) (sited-put cells old.slots slot h x last within k.sited))
-      (omega (arith, ap length put, length-append cells (slot ∷ []), length-append hs (h ∷ []), long)) (omega (arith, room, k.spare, more)) (omega (arith, ap length is, length-set old.slots slot (Some (h, x)), k.few)) (omega (arith, room, k.narrow)) (omega (arith, room, longer, some))
+      (omega (arith, ap length put, length-append cells (slot ∷ []), length-append hs (h ∷ []), long)) (omega (arith, room, k.tight, more)) (numbered-alike (length new.slots) (length old.slots) (ap length is ∙ length-set old.slots slot (Some (h, x))) k.some k.few) (omega (arith, room, k.narrow)) (omega (arith, room, longer, some))
 
   -- each index is another, and the cells are named anew
   module _ (name : ℕ → ℕ) (ks : List ℕ) (new : Table ℕ) (renames : RenamesEach name old new) (same : IsPermutation (numbered ks) (map (renaming name) (numbered hs))) (long : length ks ≡ length cells) where
     pub renamed-bag : IsPermutation (numbered ks) (members new)
     renamed-bag = bag-renamed name (numbered hs) ks old new k.bag same renames.slots
 
-    pub keeps-renamed : (after : List ℕ) (space : ℕ) → IsSited after new.slots → length after ≡ length cells → memory ≤ space → Keeps ks old.room new after space
+    pub keeps-renamed : (after : List ℕ) (space : ℕ) → IsSited after new.slots → length after ≡ length cells → space ≡ memory → Keeps ks old.room new after space
     keeps-renamed after space sited even more =
         let count = members-count ks new renamed-bag in
         let was = k.even in
-        keeps_by ks old.room new after space renamed-bag sited (even ∙ sym long) (omega (arith, count, was, long, renames.room, k.spare, more))
-        (omega (arith, ap length renames.slots, length-map old.slots (option_map (renaming name)), k.few)) (omega (arith, count, was, long, renames.room, k.narrow)) renames.room
+        keeps_by ks old.room new after space renamed-bag sited (even ∙ sym long) (omega (arith, count, was, long, renames.room, k.tight, more))
+        (numbered-alike (length new.slots) (length old.slots) (ap length renames.slots ∙ length-map old.slots (option_map (renaming name))) k.some k.few) (omega (arith, count, was, long, renames.room, k.narrow)) renames.room
 
   -- each hash went where a list says
   module _ (to ks : List ℕ) (moves : Moves hs to ks) where
@@ -94,7 +106,7 @@ module _ (old : Table ℕ) (cells : List ℕ) (memory : ℕ) (k : KeepsIndices o
       pub moved-once : StandsOnce new.slots
       moved-once = stands-once ks new moved-bag
 
-      pub keeps-moved : (after : List ℕ) (space : ℕ) → IsSited after new.slots → length after ≡ length cells → memory ≤ space → Keeps ks old.room new after space
+      pub keeps-moved : (after : List ℕ) (space : ℕ) → IsSited after new.slots → length after ≡ length cells → space ≡ memory → Keeps ks old.room new after space
       keeps-moved after space sited even more = keeps-renamed (slice_index to) ks new renames (numbered-moved hs to ks moves) moved-long after space sited even more
 
   -- another table has the same members
@@ -108,11 +120,11 @@ module _ (old : Table ℕ) (cells : List ℕ) (memory : ℕ) (k : KeepsIndices o
     pub grown-once : StandsOnce new.slots
     grown-once = stands-once hs new grown-bag
 
-    pub keeps-grown : (after : List ℕ) (space : ℕ) → IsSited after new.slots → length after ≡ length cells → table_capacity new ≤ space → length new.slots ≤ 2 ^ 32 → table_capacity new ≤ 2 ^ 32 → Keeps hs new.room new after space
-    keeps-grown after space sited even spare few narrow = keeps_by hs new.room new after space grown-bag sited (even ∙ sym (length-hashes_in old.slots cells)) spare few narrow refl
+    pub keeps-grown : (after : List ℕ) (space : ℕ) → IsSited after new.slots → length after ≡ length cells → space ≡ table_capacity new → AreNumbered (length new.slots) → table_capacity new ≤ 2 ^ 32 → Keeps hs new.room new after space
+    keeps-grown after space sited even tight few narrow = keeps_by hs new.room new after space grown-bag sited (even ∙ sym (length-hashes_in old.slots cells)) tight few narrow refl
 
   -- the order is turned round
-  pub keeps-reversed : (n : ℕ) (new : Table ℕ) (space : ℕ) → n ≡ length cells → RenamesEach (λ i. n - 1 - i) old new → memory ≤ space → Keeps (reverse hs) old.room new (reverse cells) space
+  pub keeps-reversed : (n : ℕ) (new : Table ℕ) (space : ℕ) → n ≡ length cells → RenamesEach (λ i. n - 1 - i) old new → space ≡ memory → Keeps (reverse hs) old.room new (reverse cells) space
   keeps-reversed n new space is renames more =
       let long = length-hashes_in old.slots cells in
       let bag = subst (λ m. IsPermutation (numbered (reverse hs)) (map (renaming (λ i. m - 1 - i)) (numbered hs))) (long ∙ sym is) (numbered-reverse hs) in
@@ -135,7 +147,7 @@ module _ (old : Table ℕ) (cells : List ℕ) (memory : ℕ) (k : KeepsIndices o
     stands-but = record { there = λ j lt other. (get_or hs j 0, left-there hs old k.bag i within mid apart after sited j (omega (arith, lt, even, length-hashes_in old.slots cells)) other) }
 
     -- they have
-    pub keeps-forgotten : (new : Table ℕ) (space : ℕ) → RenamesEach (lowered i) mid new → memory ≤ space → Keeps (remove hs i) (old.room + 1) new (remove after i) space
+    pub keeps-forgotten : (new : Table ℕ) (space : ℕ) → RenamesEach (lowered i) mid new → space ≡ memory → Keeps (remove hs i) (old.room + 1) new (remove after i) space
     keeps-forgotten new space renames more =
         let ks = remove hs i in
         let now = bag-renamed (lowered i) (remove (numbered hs) i) ks mid new bag (rw (numbered_from-remove 0 i i hs (omega arith) within) (IsPermutation-refl (numbered ks))) renames.slots in
@@ -143,12 +155,12 @@ module _ (old : Table ℕ) (cells : List ℕ) (memory : ℕ) (k : KeepsIndices o
         let here : i < length after = omega (arith, inside, even) in
         keeps_by ks (old.room + 1) new (remove after i) space now
         (subst (IsSited (remove after i)) (sym renames.slots) (sited-lowered i after mid.slots here (left-none hs old k.bag i within mid apart) sited))
-        (omega (arith, length-remove after i here, length-remove hs i within, even, length-hashes_in old.slots cells)) (omega (arith, count, renames.room, room, k.spare, more))
-        (omega (arith, ap length renames.slots, length-map mid.slots (option_map (renaming (lowered i))), slots, k.few)) (omega (arith, count, renames.room, room, k.narrow))
+        (omega (arith, length-remove after i here, length-remove hs i within, even, length-hashes_in old.slots cells)) (omega (arith, count, renames.room, room, k.tight, more))
+        (numbered-alike (length new.slots) (length old.slots) (ap length renames.slots ∙ length-map mid.slots (option_map (renaming (lowered i))) ∙ slots) k.some k.few) (omega (arith, count, renames.room, room, k.narrow))
         (omega (arith, renames.room, room, length_permutation (members old) _ apart))
 
     -- there was none above it
-    pub keeps-forgotten_last : (space : ℕ) → i + 1 ≡ length cells → memory ≤ space → Keeps (remove hs i) (old.room + 1) mid (take i after) space
+    pub keeps-forgotten_last : (space : ℕ) → i + 1 ≡ length cells → space ≡ memory → Keeps (remove hs i) (old.room + 1) mid (take i after) space
     keeps-forgotten_last space end more =
         let ks = remove hs i in
         let long = length-hashes_in old.slots cells in
@@ -156,4 +168,4 @@ module _ (old : Table ℕ) (cells : List ℕ) (memory : ℕ) (k : KeepsIndices o
         let left : length ks ≡ i = omega (arith, length-remove hs i within, end, long) in
         keeps_by ks (old.room + 1) mid (take i after) space now
         (sited-last after mid i (omega (arith, end, even)) (subst (λ n. All (λ m. m.1 < n) (members mid)) left (members-below ks mid now)) sited)
-        (omega (arith, length-take i after, end, even, left)) (omega (arith, room, k.spare, more)) (omega (arith, slots, k.few)) (omega (arith, room, k.narrow)) (omega (arith, room, length_permutation (members old) _ apart))
+        (omega (arith, length-take i after, end, even, left)) (omega (arith, room, k.tight, more)) (numbered-alike (length mid.slots) (length old.slots) slots k.some k.few) (omega (arith, room, k.narrow)) (omega (arith, room, length_permutation (members old) _ apart))

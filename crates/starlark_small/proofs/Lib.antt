@@ -13,6 +13,7 @@ pub mod ValuesWritten
 pub mod SmallMapOpen
 pub mod SameEntries
 pub mod Retained
+pub mod FoundRetained
 pub mod Growing
 pub mod Inserting
 pub mod NotedAtOnce
@@ -26,5 +27,6 @@ pub mod CallerCollect
 pub mod CallerIter
 pub mod CallerSort
 pub mod CallerMembers
+pub mod CallerKept
 pub mod CallerLemmas
 pub mod TableLengths

@@ -1,6 +1,6 @@
 -- A hash that a look at the index shows to be new: no entry is under it, and one goes last without growth.
-use Rattle.starlark_hash.proofs.Common.{common_steps, ◌≡◌, ◌≢◌, ℕ, ◌-◌, Bool, [], ◌∷◌, ◌++◌, length, Option, Some, None, Ok, refl, sym, subst, arith, IsEquivalence, nat_tests, get_or-map, length-map, length_push, All}
-use Rattle.starlark_small.proofs.CallerLookup.{none_among}
+use Rattle.starlark_hash.proofs.Common.{common_steps, ◌≡◌, ◌≢◌, ℕ, ◌-◌, Bool, [], ◌∷◌, ◌++◌, length, Option, Some, None, refl, sym, subst, arith, IsEquivalence, nat_tests, get_or-map, length-map, length_push, All}
+use Rattle.starlark_small.proofs.CallerLookup.{none_among, none_found}
 use Rattle.starlark_hash.specs.HashValue.{hash_of, key_of}
 use Rattle.starlark_hash.specs.declared.hashed.Hashed.{Hashed}
 use Rattle.starlark_hash.specs.Entries.{Entry, entry_hash, match_of, stands_under}
@@ -8,9 +8,9 @@ use Rattle.starlark_hash.proofs.EntryLemmas.{IsSingle-push}
 use Rattle.starlark_small.specs.Hashes.{Hashes, hash_under}
 use Rattle.starlark_small.specs.IndexCalls.{IsNotedIn}
 use Rattle.starlark_small.specs.Index.{IsIndexed, IsSound, map_of}
-use Rattle.starlark_small.specs.Insert.{IsInserted, Inserts}
+use Rattle.starlark_hash.specs.Lookup.{found}
+use Rattle.starlark_small.specs.Insert.{IsInserted}
 use Rattle.starlark_small.specs.Map.{Map}
-use Rattle.starlark_small.proofs.CallerInsert.{inserts-last}
 use Rattle.starlark_small.proofs.Indexed.{IsIndexed-noted}
 use Rattle.starlark_vecmap.specs.EntryList.{EntryList, with_entries}
 
@@ -32,8 +32,9 @@ module _ {K V : Type 0} (eq : K → K → Bool) (laws : IsEquivalence eq) (list 
     indexed = subst (IsIndexed (list.entries ++ (key, value) ∷ [])) (sym noting.noted) (IsIndexed-noted list.entries (key, value) (hash_of key) (Some noting.hashes) refl (omega (arith, noting.room)) noting.fits index);
   })
 
-  pub inserts_at_once : (old : Map K V) → map_of list before ≡ old → Inserts {B = Hashed K × V} eq key value (key, value) (λ was. was) old (map_of new after) (Ok None)
-  inserts_at_once old view =
-      let put : IsInserted (map_of list before) key value (map_of new after) = rw (is, noting.there, noting.noted) (grind (arith, common_steps, nat_tests, noting.spare, noting.room, length_push list.entries (key, value))) in
-      subst (λ m. Inserts {B = Hashed K × V} eq key value (key, value) (λ was. was) m (map_of new after) (Ok None)) view
-      (inserts-last eq laws key value (key, value) (λ was. was) (map_of list before) (map_of new after) (Ok None) absent (rw noting.there refl) refl (record { inserted = put; full = tt; refused = tt; handed_back = tt }))
+  -- the key was lacking, and the entry is the last now
+  pub inserted_at_once : (old : Map K V) → map_of list before ≡ old → (found (eq (key_of key)) (hash_of key) old.entries ≡ None) × IsInserted old (map_of new after) key value
+  inserted_at_once old view =
+      let put : IsInserted (map_of list before) (map_of new after) key value = rw (is, noting.there, noting.noted) (grind (arith, common_steps, nat_tests, noting.spare, noting.room, length_push list.entries (key, value))) in
+      subst (λ m. (found (eq (key_of key)) (hash_of key) m.entries ≡ None) × IsInserted m (map_of new after) key value) view
+      (none_found (eq (key_of key)) (hash_of key) list.entries absent, put)

@@ -10,8 +10,8 @@ use prog.Wp.{Closed}
 pub use Rattle.core.specs.contracts.result.Result as RS
 use Rattle.std.specs.declared.cmp.PartialEq as PartialEq
 pub use Rattle.starlark_columns.proofs.LoneValue.{lone_value}
-pub use Rattle.starlark_hash.specs.Entries.{match_of}
-pub use Rattle.starlark_hash.specs.HashValue.{key_of}
+pub use Rattle.starlark_hash.specs.Lookup.{found}
+pub use Rattle.starlark_hash.specs.HashValue.{hash_of, key_of}
 pub use Rattle.starlark_hash.specs.contracts.hashed.Hashed as H
 pub use Rattle.starlark_hash.proofs.hashed.Hashed.TheLaws as hashed_laws
 pub use Rattle.starlark_hash.specs.declared.hashed.Hashed.{Hashed}
@@ -44,7 +44,7 @@ module _ (K V Key : RattleType) (under : Key.Denot → Hashed K.Denot) (P : Part
     abbrev spec : Clauses 𝓤 ended
     spec κs a = record {
       ghost = Unit {0};
-      requires = λ _. sep 𝓤 (fact 𝓤 (κs.1.0 ⊑ K.lives)) (sep 𝓤 (fact 𝓤 (κs.1.1.0 ⊑ V.lives)) (fact 𝓤 (match_of P.eq a.0.now.entries (under a.1.0) ≡ None)));
+      requires = λ _. sep 𝓤 (fact 𝓤 (κs.1.0 ⊑ K.lives)) (sep 𝓤 (fact 𝓤 (κs.1.1.0 ⊑ V.lives)) (fact 𝓤 (found (P.eq (key_of (under a.1.0))) (hash_of (under a.1.0)) a.0.now.entries ≡ None)));
       ensures = λ _ x end. sep 𝓤 (sem 𝓛 (lends_inserted (param 0 K) (param 1 V) P a.0 (under a.1.0) x)) (sep 𝓤 (fact 𝓤 (IfOk x (λ p. (p.0.now ≡ key_of (under a.1.0)) × (p.1.now ≡ a.1.1.0))))
           (sep 𝓤 (fact 𝓤 (OnErr x (a.0.now.room ≡ 0))) (fact 𝓤 (IfErr x (λ refused. refused.0 ≡ (a.1.0, a.1.1.0))))));
     }
@@ -72,7 +72,7 @@ module _ (K V Key : RattleType) (under : Key.Denot → Hashed K.Denot) (P : Part
     pub meets : (𝓜 : Model 𝓤 𝓛.H) (𝓡 : Running 𝓤 𝓛.H 𝓜) → Laws Key → Laws V → ((x : Key.Denot) (f : Last (Key.exit no) x) → T (blank (left (Key.exit no) x f)))
         → (self : Callee) (f : Fn) → Closed 𝓤 𝓛.H (tables 𝓤 𝓛.H 𝓜 𝓡 𝓡.env).C (tables 𝓤 𝓛.H 𝓜 𝓡 𝓡.env).Λ self f
         → ((κs : Lfts 3) (qs : Shares 3) (bounds : AllOutlive 3 ended.signature.outlives κs) (r : MutBor R.Denot) (key : Key.Denot) (value : V.Denot) (k v : Val) → Good (layout Key) k → Good (layout (param 1 V)) v
-        → κs.1.0 ⊑ K.lives → κs.1.1.0 ⊑ V.lives → match_of P.eq r.now.entries (under key) ≡ None → ent 𝓤 (Brought κs qs bounds r key value k v)
+        → κs.1.0 ⊑ K.lives → κs.1.1.0 ⊑ V.lives → found (P.eq (key_of (under key))) (hash_of (under key)) r.now.entries ≡ None → ent 𝓤 (Brought κs qs bounds r key value k v)
         (WpFn 𝓤 𝓛.H (tables 𝓤 𝓛.H 𝓜 𝓡 𝓡.env).C (tables 𝓤 𝓛.H 𝓜 𝓡 𝓡.env).Λ f (vptr r.ref_ptr.0 r.ref_ptr.1 ∷ k ∷ v ∷ []) (Post κs qs bounds r key value k v)))
         → Meets 𝓛 ended.signature ((tables 𝓤 𝓛.H 𝓜 𝓡 𝓡.env).C self) (closing 𝓛 ended spec)
     meets 𝓜 𝓡 LKey LV key_blank self f closed body =
@@ -83,7 +83,7 @@ module _ (K V Key : RattleType) (under : Key.Denot → Hashed K.Denot) (P : Part
         subst (λ (us : List Val × (List Val × (List Val × Unit {0}))). ent 𝓤 (W.pre ((κs, qs, y.0.2, a, us), y.1)) (WpFn 𝓤 𝓛.H 𝓣.C 𝓣.Λ f (W.args ((κs, qs, y.0.2, a, us), y.1)) (W.post ((κs, qs, y.0.2, a, us), y.1))))
         (sym (λ j. (self_is j, (k.1 j, (v.1 j, tt)))))
         (qed 𝓛 (((‵ (flft κs.0 qs.0) ⊛ ‵ (flft κs.1.0 qs.1.0) ⊛ ‵ (flft κs.1.1.0 qs.1.1.0) ⊛ ‵ ftrue) ⊛ ‵ (owns (types_at ended.signature.params κs) a (mut_vals a.0, (k.0 ∷ [], (v.0 ∷ [], tt)))))
-        ∷ raw (fact 𝓤 (κs.1.0 ⊑ K.lives)) ∷ raw (fact 𝓤 (κs.1.1.0 ⊑ V.lives)) ∷ raw (fact 𝓤 (match_of P.eq a.0.now.entries (under a.1.0) ≡ None)) ∷ []) ∵
+        ∷ raw (fact 𝓤 (κs.1.0 ⊑ K.lives)) ∷ raw (fact 𝓤 (κs.1.1.0 ⊑ V.lives)) ∷ raw (fact 𝓤 (found (P.eq (key_of (under a.1.0))) (hash_of (under a.1.0)) a.0.now.entries ≡ None)) ∷ []) ∵
         move ! (1 ∷ 2 ∷ 3 ∷ []) $ heard ! _ (λ lK. heard ! _ (λ lV. heard ! _ (λ absent.
         split ! $ split3 ! $ move ! (2 ∷ []) $ split ! $ move ! (4 ∷ []) $ fsplit3 ! $ move ! (2 ∷ []) $ fsplit ! $ keep ! (6 ∷ 7 ∷ 4 ∷ 2 ∷ 3 ∷ 0 ∷ []) $
         by ! (body κs qs y.0.2 a.0 a.1.0 a.1.1.0 k.0 v.0 k.2 v.2 lK lV absent))))))

@@ -9,8 +9,11 @@ use Rattle.std_collections.specs.HashMap.Eq.{get_from_hash_map_eq}
 use Rattle.std_collections.proofs.HashMapEq.{key_at, own_value, equal_by_keys}
 use Rattle.starlark_hash.specs.declared.hashed.Hashed.{Hashed}
 use Rattle.starlark_hash.specs.Entries.{Entry, IsSingle, value_at, match_of}
+use Rattle.starlark_hash.specs.HashValue.{hash_of, key_of}
+use Rattle.starlark_hash.specs.Lookup.{found}
 use Rattle.starlark_small.specs.Along.{an-item}
 use Rattle.starlark_small.specs.Compare.{agree_at, same_entries}
+use Rattle.starlark_small.proofs.CallerLookup.{found-value_at}
 use Rattle.starlark_small.specs.CompareLaws.{alike, alike-laws, value_at-lookup, as_map, as_maps, both}
 
 module _ {K V : Type 0} (eq : K → K → Bool) where
@@ -33,10 +36,10 @@ module _ {K V : Type 0} (eq : K → K → Bool) (E : V → V → Bool) where
   agree-values ds es q = λ i. option_eq E (value_at-lookup eq ds q i) (value_at-lookup eq es q i)
 
   -- the values of an own key agree as its own value and what was found
-  pub agree-found : IsEquivalence eq → (ds es : List (Entry K V)) (i : ℕ) (e : Entry K V) → slice_get ds i ≡ Some e → IsSingle eq ds → (found : Option V) (agree answer : Bool)
-      → found ≡ value_at es (match_of eq es e.0) → agree ≡ option_eq E (Some e.1) found → agree ≡ answer → agree_at eq E ds es e.0 ≡ answer
-  agree-found o ds es i e at single found agree answer theirs is answers =
-      (λ j. option_eq E (own_match eq o ds i e at single (slice_get_within ds i e at) j) (sym theirs j)) ∙ sym is ∙ answers
+  pub agree-found : IsEquivalence eq → (ds es : List (Entry K V)) (i : ℕ) (e : Entry K V) → slice_get ds i ≡ Some e → IsSingle eq ds → (other : Option V) (agree answer : Bool)
+      → other ≡ found (eq (key_of e.0)) (hash_of e.0) es → agree ≡ option_eq E (Some e.1) other → agree ≡ answer → agree_at eq E ds es e.0 ≡ answer
+  agree-found o ds es i e at single other agree answer theirs is answers =
+      (λ j. option_eq E (own_match eq o ds i e at single (slice_get_within ds i e at) j) (sym (theirs ∙ found-value_at (eq (key_of e.0)) (hash_of e.0) es) j)) ∙ sym is ∙ answers
 
   pub unequal_at : IsEquivalence eq → (ds es : List (Entry K V)) (q : Hashed K) → agree_at eq E ds es q ≡ false → false ≡ same_entries eq E ds es
   unequal_at o ds es q differ =

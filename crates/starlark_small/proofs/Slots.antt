@@ -56,9 +56,6 @@ module _ (from i : ℕ) (cells : List ℕ) (slots : Slots) (passed : (p : ℕ) �
   pub named-next : (h x : ℕ) → StandsOnce slots → x < length cells → get_or slots i None ≡ Some (h, x) → AreNamed (i + 1) (set cells x i) slots
   named-next h x once below at = record { before = λ s g y lt is. grind (arith, common_steps, named.before s g y, passed s, once.once s i g h x) }
 
-  pub named-pass : None ≡ option_map {T = ℕ × ℕ} (λ m. m.1) (get_or slots i None) → AreNamed (i + 1) cells slots
-  named-pass none = record { before = λ s h x lt is. grind (arith, common_steps, named.before s h x, passed s) }
-
 pub sited-named : (i : ℕ) (cells : List ℕ) (t : Table ℕ) → ((p : ℕ) → i ≤ p → member_at t p ≡ None) → All (λ m. m.1 < length cells) (members t) → AreNamed i cells t.slots → IsSited cells t.slots
 sited-named i cells t rest all named = grind (arith, common_steps, below-at (length cells) t all, named.before, rest)
 

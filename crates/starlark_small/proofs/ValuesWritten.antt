@@ -11,7 +11,7 @@ module _ {K V : Type 0} where
   pub IsSound-with_values : (eq : K → K → Bool) (es ws : List (Entry K V)) (index : Option Hashes) → IsSound eq es index → IsSound eq (with_values es ws) index
   IsSound-with_values eq es ws index sound = IsSound-same es (with_values es ws) (hashed_keys-with_values es ws) eq index sound
 
-  hashed_keys-set_value_at : (es : List (Entry K V)) (i : ℕ) (value : V) → keys_of (set_value_at es i value) ≡ keys_of es
+  pub hashed_keys-set_value_at : (es : List (Entry K V)) (i : ℕ) (value : V) → keys_of (set_value_at es i value) ≡ keys_of es
   hashed_keys-set_value_at (e ∷ es) (suc i) value = ap (λ l. e.0 ∷ l) (hashed_keys-set_value_at es i value)
   hashed_keys-set_value_at es i value = refl
 

@@ -1,7 +1,7 @@
 -- Maps of an iterator's items, and maps that such items went into. Sets, ordered and sorted types share these words.
-use Rattle.std.specs.Prelude.{◌≡◌, ◌≤◌, ◌+◌, ℕ, List, [], ◌∷◌, ◌++◌, Bool, true, IfSome, IsSome, Option, None, Result, MatchResult, IsOk, OnErr, ◌||◌, nat_lt, length, map, OnOk}
+use Rattle.std.specs.Prelude.{◌≡◌, ◌≤◌, ◌+◌, ℕ, List, [], ◌∷◌, ◌++◌, Bool, true, IfSome, IsSome, Option, None, Result, MatchResult, IsOk, OnErr, ◌||◌, nat_lt, length, map}
 use Rattle.std.specs.Hash.{HashWrites}
-use Rattle.std.specs.Iterator.{Count, Drains, Yields, size}
+use Rattle.std.specs.Iterator.{Count, Drains, Yields}
 use Rattle.std.specs.Iterator.Runs.{AllItems, AnyItem, WholeRun}
 use Rattle.std.specs.Iterator.SizeHint.{IsWithinCount}
 use Rattle.std.specs.Map.{update_all}
@@ -95,12 +95,3 @@ module _ {K V T U : Type 0} (eq : K → K → Bool) (feeds : K → HashWrites) (
     pub map : Collects eq (own_entry feeds) steps becomes remaining iter m
     pub items : HasItems eq feeds steps becomes iter m
     pub own : AreOwn feeds m
-
-  -- the iterator's items went into the old map in their order, each under its key's own hash: all of them, or, after a refusal,
-  -- those before a new key
-  pub record TakesIn {E : Type 0} (old new : Map K V) (r : Result (Unit {0}) E) : Type 0 where
-    pub found : OnOk r (FindsLast eq feeds steps becomes iter (get eq feeds old) new)
-    pub entries : Extends eq (own_entry feeds) steps becomes iter old.entries new.entries r
-    pub memory : IsExtended ((it : T) → becomes iter it → size (remaining it) ≤ old.room) old new r
-    pub left : (it : T) × becomes iter it × (old.room ≤ new.room + size (remaining it))
-    pub own : AreOwn feeds old → AreOwn feeds new

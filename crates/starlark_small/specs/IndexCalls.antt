@@ -1,5 +1,5 @@
 -- What calls say of an index that is made, filled and grown. What an index holds is in `Index.antt`.
-use Rattle.std.specs.Prelude.{◌≡◌, ◌≢◌, ℕ, ◌+◌, ◌-◌, ◌<◌, ◌≤◌, ◌^◌, ◌||◌, [], Bool, true, false, List, Option, Some, Result, IfOk, IfSome, IsOk, OnErr, OnOk, IsPermutation, is_some, length, nat_lt}
+use Rattle.std.specs.Prelude.{◌≡◌, ◌≢◌, ℕ, ◌+◌, ◌*◌, ◌-◌, ◌<◌, ◌≤◌, ◌^◌, ◌||◌, [], List, Option, Some, Result, IfOk, IfSome, IsOk, OnErr, OnOk, IsPermutation, is_some, length, max, nat_lt}
 use Rattle.std.specs.Borrow.{Bor}
 use Rattle.std.specs.List.{All}
 use Rattle.std.specs.Option.{option_map}
@@ -8,51 +8,25 @@ use Rattle.starlark_hash.specs.declared.hash_value.StarlarkHashValue.{StarlarkHa
 use Rattle.starlark_hash.specs.Entries.{Entry, entry_hash}
 use Rattle.starlark_small.specs.Hashes.{Hashes, hash_under, noted, numbered}
 use Rattle.starlark_small.specs.Index.{IsIndexed, hashes_of, index_room, unindexed}
+use Rattle.starlark_table.specs.Growth.{most_for}
 use Rattle.starlark_table.specs.Table.{Table, members}
 use Rattle.starlark_vec2.specs.Sort.{Moves}
 
--- room was made for this many hashes in all, and the hashes stay; or it was refused, and nothing has changed
+-- room was made for this many hashes in all, and not for many more, and the hashes stay; or it was refused, and nothing has changed
 pub record GrowsHashes {A E : Type 0} (needed : ℕ) (old new : Hashes) (r : Result A E) : Type 0 where
   pub made : OnOk r (needed ≤ length old.list + new.room)
+  pub most : OnOk r (length old.list + new.room ≤ most_for needed)
   pub list : new.list ≡ old.list
   pub unchanged : OnErr r (new ≡ old)
 
--- room was made for this many further hashes where it was missing: the hashes stay, and no room is lost. Or false says that
--- another table is wanted, which is so only above the threshold, or memory was refused: then room was missing, and nothing has
--- changed
-pub record ReservesHashes {E : Type 0} (additional : ℕ) (old new : Hashes) (r : Result Bool E) : Type 0 where
-  pub made : IfOk r (λ fits. fits ≡ true → additional ≤ new.room)
-  pub other : IfOk r (λ fits. fits ≡ false → old.room < additional)
-  pub many : IfOk r (λ fits. fits ≡ false → unindexed < length old.list + additional)
-  pub kept : IfOk r (λ fits. fits ≡ false → new ≡ old)
-  pub list : new.list ≡ old.list
-  pub room : old.room ≤ new.room
-  pub enough : additional ≤ old.room → new ≡ old
-  pub refused : OnErr r (old.room < additional)
-  pub unchanged : OnErr r (new ≡ old)
-
--- an index of an empty list was made, with room for this many entries, if so many need one; or it was refused, which never happens
--- where they need none
+-- an index of an empty list was made, with room for this many entries and not for many more, if so many need one; or it was refused,
+-- which never happens where they need none
 pub record MakesIndexFor {E : Type 0} (many : ℕ) (r : Result (Option Hashes) E) : Type 0 where
   pub empty : IfOk r (λ index. IfSome index (λ h. h.list ≡ []))
   pub made : IfOk r (λ index. is_some index ≡ nat_lt unindexed many)
   pub room : IfOk r (λ index. many ≤ index_room 0 index)
+  pub most : IfOk r (λ index. IfSome index (λ h. h.room ≤ most_for many))
   pub succeeds : many ≤ unindexed → IsOk r
-
--- the index has room for this many new entries of a list of this length, and there is one if there was or if so many more need it;
--- false says that another index is wanted, only where room was missing and so many more need one. Whatever is answered, the hashes
--- stay and no room is lost. Nothing changes at false, where there was room, nor at a refusal, which comes only where it was missing
-pub record ReservesAsItIs {E : Type 0} (len additional : ℕ) (old new : Option Hashes) (r : Result Bool E) : Type 0 where
-  pub room : IfOk r (λ fits. fits ≡ true → additional ≤ index_room len new)
-  pub made : IfOk r (λ fits. fits ≡ true → is_some new ≡ (is_some old || nat_lt unindexed (len + additional)))
-  pub other : IfOk r (λ fits. fits ≡ false → index_room len old < additional)
-  pub long : IfOk r (λ fits. fits ≡ false → unindexed < len + additional)
-  pub kept : IfOk r (λ fits. fits ≡ false → new ≡ old)
-  pub list : option_map (λ h. h.list) new ≡ option_map (λ h. h.list) old
-  pub grows : index_room len old ≤ index_room len new
-  pub enough : additional ≤ index_room len old → new ≡ old
-  pub refused : OnErr r (index_room len old < additional)
-  pub unchanged : OnErr r (new ≡ old)
 
 -- there is an index, and a hash that was not in it went last; the list has room for its entry
 pub record IsNotedIn (hash : StarlarkHashValue) (free : ℕ) (old new : Option Hashes) : Type 0 where
@@ -95,8 +69,10 @@ module _ {K V : Type 0} where
     pub refused : OnErr r (index_room (length es) old < additional)
     pub unchanged : OnErr r (new ≡ old)
 
-  -- the index has room for this many new entries, and there is one if there was or if so many more need it; or it was refused
+  -- the index has room for this many new entries, where it grew not for many more, and there is one if there was or if so many more
+  -- need it; or it was refused
   pub record ReservesIndex {A E : Type 0} (es : List (Entry K V)) (additional : ℕ) (old new : Option Hashes) (r : Result A E) : Type 0 where
     pub room : OnOk r (additional ≤ index_room (length es) new)
+    pub most : index_room (length es) old < additional → OnOk r (length es + index_room (length es) new ≤ most_for (max (2 * unindexed) (length es + additional)))
     pub made : OnOk r (is_some new ≡ (is_some old || nat_lt unindexed (length es + additional)))
     pub grown : GrowsIndex es additional old new r

@@ -1,22 +1,28 @@
--- What the walks of a `SmallMap` hand out, and what every walk of a list of entries promises: the list's length fits a `usize`, that
--- many are walked, and it runs in order from either end.
+-- What the iterators of a `SmallMap` yield, and what each of them promises: how long the list may be, that it yields as many items as
+-- the list has, and that it runs in order from either end. A borrowed list is shorter than 2^63, since each hash takes four bytes.
 pub use Rattle.starlark_vecmap.specs.EntryList.{deref_entry}
-use Rattle.std.specs.Prelude.{◌≡◌, ℕ, ◌<◌, ◌^◌, Bool, IfSome, List, Some, length, slice_get}
+use Rattle.std.specs.Prelude.{◌≡◌, ℕ, ◌<◌, ◌^◌, AllPairs, Bool, IfSome, IsTrue, List, Some, false, length, slice_get}
 use Rattle.std.specs.Hash.{HashWrites}
 use Rattle.std.specs.Map.Iter.{deref, ShowsInOrder, ShowsInReverse, GivesInOrder, GivesInReverse}
 use Rattle.starlark_hash.specs.Hasher.{own_hash}
 use Rattle.starlark_hash.specs.declared.hash_value.StarlarkHashValue.{StarlarkHashValue}
-use Rattle.starlark_hash.specs.Entries.{Entry}
+use Rattle.starlark_hash.specs.Entries.{Entry, entry_key}
 use Rattle.starlark_hash.specs.Lookup.{found}
-use Rattle.starlark_small.specs.Lookup.{AreOwnEntries}
+use Rattle.starlark_small.specs.Lookup.{AreOwn, AreOwnEntries}
+use Rattle.starlark_small.specs.Map.{Map}
 
 -- a walk that lends each thing of the list, as these
 abbrev pub ShowsEach : {A B C X : Type 0} → List A → List C → (B → X) → Type 0
-ShowsEach list shown shows = (length list < 2 ^ 64) × (length shown ≡ length list) × ShowsInOrder shows × ShowsInReverse shows
+ShowsEach list shown shows = (length list < 2 ^ 63) × (length shown ≡ length list) × ShowsInOrder shows × ShowsInReverse shows
 
 -- a walk that gives each thing of the list away, as these
 abbrev pub GivesEach : {A C : Type 0} → List A → List C → Type 0 → Type 0
 GivesEach list given X = (length list < 2 ^ 64) × (length given ≡ length list) × GivesInOrder X × GivesInReverse X
+
+module _ {K V : Type 0} (eq : K → K → Bool) (m : Map K V) where
+  -- no two keys are equal, where each key is under its own hash and equal keys feed alike
+  abbrev pub HasDistinctKeys : Type 0
+  HasDistinctKeys = (feeds : K → HashWrites) → ((x y : K) → IsTrue (eq x y) → feeds x ≡ feeds y) → AreOwn feeds m → AllPairs (λ d e. eq (entry_key d) (entry_key e) ≡ false) m.entries
 
 module _ {K V : Type 0} (eq : K → K → Bool) (es : List (Entry K V)) where
   -- where the list has each key under its own hash, this is the key's
@@ -30,7 +36,7 @@ module _ {K V : Type 0} (eq : K → K → Bool) (es : List (Entry K V)) where
 
   -- a walk that lends each value of the list, as these, which are those that look-ups find
   abbrev pub ShowsValues : List V → Type 0
-  ShowsValues values = (length es < 2 ^ 64) × (length values ≡ length es) × ShowsInOrder (deref {X = V}) × ShowsInReverse (deref {X = V}) × AreFound values
+  ShowsValues values = (length es < 2 ^ 63) × (length values ≡ length es) × ShowsInOrder (deref {X = V}) × ShowsInReverse (deref {X = V}) × AreFound values
 
   -- a walk that gives each value of the list away
   abbrev pub GivesValues : List V → Type 0

@@ -34,11 +34,14 @@ module _ (K V : RattleType) (g : eq.Ghosts K.Denot) (s : MutBor (Map K.Denot V.D
   abbrev pub lends_value : ℕ → MutBor V.Denot → Fml
   lends_value i r = Lends (the_row K V g) V s r (λ w. record s.now { entries = set_value_at s.now.entries i w })
 
-  -- the value that a test finds under a hash ends as what is left behind the reference, and all else stays, which is said by
-  -- look-ups too; where there is none, the map stays
+  -- the value that a test finds under a hash ends as what is left behind the reference, and all else stays: by look-ups; the keys
+  -- in their order, and which are under their own hashes; and where the value is left as it was, the map is as it was. Where there
+  -- is none, the map stays
   abbrev pub lends_get : (K.Denot → Bool) → StarlarkHashValue → Option (MutBor V.Denot) → Fml
   lends_get test hash r = LendsSo (the_row K V g) V s r
-      (λ n w. (n ≡ record s.now { entries = with_value s.now.entries (position_of hash test s.now.entries) w }) × (keys n ≡ keys s.now) × (IsSome (found test hash s.now.entries) → Writes g.eq test hash s.now.entries n.entries (Some w)))
+      (λ n w. (n ≡ record s.now { entries = with_value s.now.entries (position_of hash test s.now.entries) w }) × (keys n ≡ keys s.now)
+      × (IsSome (found test hash s.now.entries) → Writes g.eq test hash s.now.entries n.entries (Some w))
+      × ((feeds : K.Denot → HashWrites) → AreOwn feeds s.now → AreOwn feeds n) × (found test hash s.now.entries ≡ Some w → n ≡ s.now))
       (λ n. n ≡ s.now)
 
   -- the map ends with the values that the loan of this name ends with, each in its place; hashes, keys, order, room, capacity
@@ -50,9 +53,9 @@ module _ (K V : RattleType) (g : eq.Ghosts K.Denot) (s : MutBor (Map K.Denot V.D
   -- after a refusal
   abbrev pub lends_inserted : {E : Type 0} → Hashed K.Denot → Result (Bor K.Denot × MutBor V.Denot) E → Fml
   lends_inserted key r =
-      follows_so (the_row K V g) V s.ghost_name (name_if_ok (λ p. p.1.ghost_name) r) (λ w n. OnOk r (IsInserted s.now key w n)) (λ n. OnErr r (IsRefused s.now n))
+      follows_so (the_row K V g) V s.ghost_name (name_if_ok (λ p. p.1.ghost_name) r) (λ w n. OnOk r (IsInserted s.now n key w)) (λ n. OnErr r (IsRefused s.now n))
 
   -- the same, where only a reference to the value is lent
   abbrev pub lends_new : {E : Type 0} → Hashed K.Denot → Result (MutBor V.Denot) E → Fml
   lends_new key r =
-      follows_so (the_row K V g) V s.ghost_name (name_if_ok (λ p. p.ghost_name) r) (λ w n. OnOk r (IsInserted s.now key w n)) (λ n. OnErr r (IsRefused s.now n))
+      follows_so (the_row K V g) V s.ghost_name (name_if_ok (λ p. p.ghost_name) r) (λ w n. OnOk r (IsInserted s.now n key w)) (λ n. OnErr r (IsRefused s.now n))

@@ -1,10 +1,8 @@
 -- What a caller of a `SmallMap` says of it: what a query finds under its own hash, and what a call leaves at its query and at
 -- all other keys. Sets, ordered and sorted types share these words: a set is a map to `()`. All of them but `found`,
 -- `found_key` and `AreOwnEntries` unfold by themselves in callers' proofs.
-use Rattle.std.specs.Borrow.{Bor}
-use Rattle.std.specs.Prelude.{◌≡◌, ℕ, ◌<◌, length, All, Bool, IfSome, List, Option, None, is_some, map}
-use Rattle.std.specs.List.{IsAmong, sum_by}
-use Rattle.std.specs.Option.{IfNone, option_map}
+use Rattle.std.specs.Prelude.{◌≡◌, ℕ, ◌<◌, length, All, Bool, Contains, IfSome, List, Option, None, is_some, map, true}
+use Rattle.std.specs.List.{sum_by}
 use Rattle.std.specs.Hash as fed
 use Rattle.std.specs.Hash.{HashWrites}
 use Rattle.std.specs.Str.{bytes_eq}
@@ -12,7 +10,7 @@ use Rattle.std.specs.String.{string_bytes}
 use Rattle.std.specs.declared.string.String.{String}
 use Rattle.starlark_hash.specs.Hasher.{own_hash}
 use Rattle.starlark_hash.specs.declared.hash_value.StarlarkHashValue.{StarlarkHashValue}
-use Rattle.starlark_hash.specs.Entries.{Entry, entry_at, entry_hash, entry_key, entry_value, pair_of, position_of, value_at}
+use Rattle.starlark_hash.specs.Entries.{Entry, entry_hash, entry_key, entry_value, position_of}
 use Rattle.starlark_hash.specs.Lookup.{found, found_key, Writes}
 use Rattle.starlark_small.specs.Map.{Map}
 
@@ -66,37 +64,17 @@ module _ {K V : Type 0} where
   abbrev pub AreOwn : (K → HashWrites) → Map K V → Type 0
   AreOwn feeds m = AreOwnEntries feeds m.entries
 
+  -- some key of the map passes the test
+  abbrev pub HasKey : (K → Bool) → Map K V → Type 0
+  HasKey test m = (key : K) × Contains (keys m) key × (test key ≡ true)
+
 module _ {K V : Type 0} (test : K → Bool) (hash : StarlarkHashValue) (m : Map K V) where
-  -- the index of what the test names under the hash, which lies in the list, where there is a value
+  -- the index of the entry under the hash whose key passes the test, where there is such an entry; it is within the list
   pub record NamesIndex (r : Option ℕ) : Type 0 where
     pub index : r ≡ position_of hash test m.entries
     pub found : is_some r ≡ is_some (found test hash m.entries)
     pub within : IfSome r (λ i. i < length m.entries)
-
-  -- whether there is what the test names under the hash
-  pub record TellsPresence (is_there : Bool) : Type 0 where
-    pub index : is_there ≡ is_some (position_of hash test m.entries)
-    pub found : is_there ≡ is_some (found test hash m.entries)
-
-  -- the value of what the test names under the hash: it stands at its index, and is one of the map's values; or there is none
-  pub record FindsValue (r : Option V) : Type 0 where
-    pub value : r ≡ value_at m.entries (position_of hash test m.entries)
-    pub found : r ≡ found test hash m.entries
-    pub member : IfSome r (λ value. IsAmong (map entry_value m.entries) value)
-    pub absent : IfNone r (position_of hash test m.entries ≡ None)
-
-  -- the stored key and the value of what the test names under the hash
-  pub record FindsPair (r : Option (K × V)) : Type 0 where
-    pub pair : r ≡ option_map pair_of (entry_at m.entries (position_of hash test m.entries))
-    pub stored : option_map (λ p. p.0) r ≡ found_key test hash m.entries
-    pub found : option_map (λ p. p.1) r ≡ found test hash m.entries
-
-  -- its index, with the stored key and the value there
-  pub record FindsEntry (r : Option (ℕ × Bor K × Bor V)) : Type 0 where
-    pub index : option_map (λ e. e.0) r ≡ position_of hash test m.entries
-    pub pair : option_map (λ e. (e.1.now, e.2.now)) r ≡ option_map pair_of (entry_at m.entries (position_of hash test m.entries))
-    pub stored : option_map (λ e. e.1.now) r ≡ found_key test hash m.entries
-    pub found : option_map (λ e. e.2.now) r ≡ found test hash m.entries
+    pub key : IfSome r (λ _. HasKey test m)
 
 module _ {A V : Type 0} where
   -- the value at the string of these bytes, under its own hash, where there is one

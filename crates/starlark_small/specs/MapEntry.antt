@@ -1,7 +1,7 @@
 -- What the contracts of a map's `Entry` cite.
 pub use Rattle.starlark_small.specs.declared.entry.Entry.TheVariants.{Occupied, Vacant}
 use Rattle.std.proofs.Common.{subst, sym}
-use Rattle.std.specs.Prelude.{◌≡◌, ℕ, ◌+◌, ◌<◌, ◌≤◌, Bool, Option, Some, None, Result, MatchResult, IfSome, IsSomeAnd, IsErr, IsOk, OnOk, OnErr, [], ◌∷◌, ◌++◌, if◌then◌else◌, is_some, length, slice_get, ⊤}
+use Rattle.std.specs.Prelude.{◌≡◌, ℕ, ◌<◌, ◌≤◌, Bool, Option, Some, None, Result, MatchResult, IfSome, IsSomeAnd, IsErr, IsOk, OnOk, OnErr, [], length, slice_get, ⊤}
 use Rattle.std.specs.Hash.{HashWrites}
 use Rattle.std.specs.Borrow.{Fml, RattleType, MutBor, follows, follows_so, name_if_ok}
 use Rattle.std.specs.Fn.{Once, FnOnceTakesAtMut, FnOnceReturnsAtMut}
@@ -15,10 +15,9 @@ use Rattle.starlark_hash.specs.Entries.{entry_key, entry_value, match_of, set_va
 use Rattle.starlark_hash.specs.HashValue.{hash_of, key_of}
 use Rattle.starlark_hash.specs.Hasher.{own_hash}
 use Rattle.starlark_hash.specs.Lookup.{found, Writes, weight_of}
-use Rattle.starlark_hash.specs.Insert.{insert_entry}
 use Rattle.starlark_hash.proofs.EntryLemmas.{length-set_value_at}
-use Rattle.starlark_small.specs.Lookup.{keys, AreOwn, total_of}
-use Rattle.starlark_small.specs.Insert.{IsInserted, IsRefused}
+use Rattle.starlark_small.specs.Lookup.{AreOwn, total_of}
+use Rattle.starlark_small.specs.Insert.{Inserts, IsInserted, IsRefused}
 use Rattle.starlark_small.specs.Map.{Map}
 use Rattle.starlark_small.specs.contracts.entry.OccupiedEntry as occupied
 use Rattle.starlark_small.specs.contracts.small_map.SmallMap.{the_row}
@@ -51,7 +50,7 @@ module _ {K V : Type 0} {g : eq.Ghosts K} where
   -- the entry that m has under the key, or the lack of one
   abbrev pub IsEntryOf : (K → K → Bool) → Map K V → Hashed K → Entry K V g → Type 0
   IsEntryOf eq m key (Occupied o) = ((occupied_map o).now ≡ m) × (match_of eq m.entries key ≡ Some (occupied_index o))
-  IsEntryOf eq m key (Vacant v) = ((vacant_map v).now ≡ m) × (match_of eq m.entries key ≡ None) × (lacking_key v ≡ key)
+  IsEntryOf eq m key (Vacant v) = ((vacant_map v).now ≡ m) × (found (eq (key_of key)) (hash_of key) m.entries ≡ None) × (lacking_key v ≡ key)
 
   -- what stands at an occupied entry's index
   abbrev pub stored : OccupiedEntry K V g → Option (Hashed K × V)
@@ -74,7 +73,7 @@ module _ {K V : Type 0} {g : eq.Ghosts K} where
   -- what the map is once this value was put under the entry: `written` where it was occupied, inserted where it was vacant
   abbrev pub IsPut : Entry K V g → V → Map K V → Type 0
   IsPut (Occupied o) value m = m ≡ written o value
-  IsPut (Vacant v) value m = IsInserted (vacant_map v).now (lacking_key v) value m
+  IsPut (Vacant v) value m = IsInserted (vacant_map v).now m (lacking_key v) value
 
   -- the same as one word, which callers' proofs never unfold
   unfoldable pub Puts : Entry K V g → V → Map K V → Type 0
@@ -90,20 +89,18 @@ module _ {K V : Type 0} {g : eq.Ghosts K} where
   unfoldable pub Refuses : Entry K V g → Map K V → Type 0
   Refuses e m = IsVacant e × IsRefused (map_of_entry e).now m
 
-  -- the entry that the old map has under the key, or the lack of one, which shows the value that is there; and what the map is by
-  -- key once a value was put under it: the value is there, all other keys have what they had, a new key went last, and keys under
+  -- the entry that the old map has under the key, or the lack of one, which shows the value that is there; and what the map is
+  -- once a value was put under it: the key has the value, all other keys have what they had, a new key is appended, and keys under
   -- their own hashes stay so; where it was refused, the entries stay
-  pub record Enters (eq : K → K → Bool) (key : Hashed K) (old : Map K V) (e : Entry K V g) : Type 0 where
+  pub record Enters (eq : K → K → Bool) (old : Map K V) (key : Hashed K) (e : Entry K V g) : Type 0 where
     pub entry : IsEntryOf eq old key e
     pub value : entry_value_of e ≡ found (eq (key_of key)) (hash_of key) old.entries
-    pub entries : (value : V) (new : Map K V) → Puts e value new → new.entries ≡ insert_entry eq old.entries key value
     pub updates : (value : V) (new : Map K V) → Puts e value new → Writes eq (eq (key_of key)) (hash_of key) old.entries new.entries (Some value)
-    pub keys : (value : V) (new : Map K V) → Puts e value new → keys new ≡ (if is_some (found (eq (key_of key)) (hash_of key) old.entries) then keys old else keys old ++ key_of key ∷ [])
+    pub inserts : (value : V) (new : Map K V) → Puts e value new → Inserts eq old new key value
     pub own : (feeds : K → HashWrites) → hash_of key ≡ own_hash feeds (key_of key) → (value : V) (new : Map K V) → Puts e value new → AreOwn feeds old → AreOwn feeds new
     pub refused : (new : Map K V) → Refuses e new → new.entries ≡ old.entries
-    -- by any measure: the value that is there is a part of what all weigh, and what they weigh once a value was put
+    -- by any measure, the value that is there is no more than all together
     pub part : (measure : V → ℕ) → weight_of measure (entry_value_of e) ≤ total_of measure old.entries
-    pub total : (measure : V → ℕ) (value : V) (new : Map K V) → Puts e value new → total_of measure new.entries + weight_of measure (entry_value_of e) ≡ total_of measure old.entries + measure value
 
   -- r shows the value that is there, or one that may be given; an `Err` is of a vacant entry alone, and hands the key back with
   -- such a value
@@ -153,7 +150,7 @@ module _ (K V : RattleType) {g : eq.Ghosts K.Denot} where
 
   -- the map has the new entry with the value that is left behind the reference; refused, it has the entries that it had
   abbrev pub vacant_lends : {E : Type 0} → VacantEntry K.Denot V.Denot g → Result (MutBor V.Denot) E → Fml
-  vacant_lends v r = follows_so (the_row K V g) V (vacant_map v).ghost_name (name_if_ok (λ p. p.ghost_name) r) (λ w n. OnOk r (IsInserted (vacant_map v).now (lacking_key v) w n) × (IsOk r → Puts (Vacant v) w n)) (λ n. OnErr r (IsRefused (vacant_map v).now n) × (IsErr r → Refuses (Vacant v) n))
+  vacant_lends v r = follows_so (the_row K V g) V (vacant_map v).ghost_name (name_if_ok (λ p. p.ghost_name) r) (λ w n. OnOk r (IsInserted (vacant_map v).now n (lacking_key v) w) × (IsOk r → Puts (Vacant v) w n)) (λ n. OnErr r (IsRefused (vacant_map v).now n) × (IsErr r → Refuses (Vacant v) n))
 
   -- the map ends with what is left behind the reference put under the entry; refused, it has the entries that it had
   abbrev pub entry_lends : {E : Type 0} → Entry K.Denot V.Denot g → Result (MutBor V.Denot) E → Fml

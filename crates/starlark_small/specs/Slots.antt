@@ -28,13 +28,14 @@ pub record StandsBut (but : ℕ) (cells : List ℕ) (slots : List (Option (ℕ �
 pub record StandsOnce (slots : List (Option (ℕ × ℕ))) : Type 0 where
   pub once : (s u h k x : ℕ) → slice_index_or slots s None ≡ Some (h, x) → slice_index_or slots u None ≡ Some (k, x) → s ≡ u
 
--- the table has each index of the list under its hash, and the cells name the slot of each. There is memory for as many cells as the
--- table has room for, and 32 bits number slots and indices
+-- the table has each index of the list under its hash, and the cells name the slot of each. There is memory for just as many cells as
+-- the table has room for. There are slots, and 32 bits number slots and indices
 pub record KeepsIndices (table : Table ℕ) (cells : List ℕ) (memory : ℕ) : Type 0 where
   pub bag : IsPermutation (numbered (hashes_in table.slots cells)) (members table)
   pub sited : IsSited cells table.slots
   pub even : length cells ≡ table_len table
-  pub spare : table_capacity table ≤ memory
+  pub tight : memory ≡ table_capacity table
+  pub some : 0 < length table.slots
   pub few : length table.slots ≤ 2 ^ 32
   pub narrow : table_capacity table ≤ 2 ^ 32
 

@@ -2,7 +2,9 @@
 ghost use Rattle.std.specs.Prelude.{◌≡◌, ◌<◌, length, Some, None, IfErr, IfOk, OnErr};
 ghost use Rattle.std.specs.Borrow.{sem};
 ghost use Rattle.std.specs.Option.{option_map};
-ghost use Rattle.starlark_hash.specs.Entries.{entry_key, entry_value, match_of, pair_of};
+ghost use Rattle.starlark_hash.specs.Entries.{entry_key, entry_value, pair_of};
+ghost use Rattle.starlark_hash.specs.HashValue.{hash_of, key_of};
+ghost use Rattle.starlark_hash.specs.Lookup.{found};
 
 use crate::small_map::SmallMap;
 use starlark_hash::{Hashed, NoRoom};
@@ -30,7 +32,7 @@ pub struct OccupiedEntry<'a, K: Eq, V> {
 pub struct VacantEntry<'a, K: Eq, V> {
     map: &'a mut SmallMap<K, V>,
     key: Hashed<K>,
-    ghost absent: { match_of K.eq map.now.entries key ≡ None },
+    ghost absent: { found (K.eq (key_of key)) (hash_of key) map.now.entries ≡ None },
 }
 
 impl<K: Eq, V> Drop for OccupiedEntry<'_, K, V> {
@@ -71,7 +73,7 @@ impl<K: Eq, V> SmallMap<K, V> {
     where
         K: Hash + Drop,
         ensures same_map { (map_of_entry result).ghost_name ≡ self.entry.ghost_name }
-        ensures enters { Enters K.eq (own_hashed K.hash_input key) self.old result }
+        ensures enters { Enters K.eq self.old (own_hashed K.hash_input key) result }
     {
         self.entry_hashed(Hashed::new(key))
     }
@@ -82,7 +84,7 @@ impl<K: Eq, V> SmallMap<K, V> {
     where
         K: Drop,
         ensures same_map { (map_of_entry result).ghost_name ≡ self.entry.ghost_name }
-        ensures enters { Enters K.eq key self.old result }
+        ensures enters { Enters K.eq self.old key result }
     {
         if let Some(index) = self.get_index_of_hashed(key.as_ref()) {
             return Entry::Occupied(OccupiedEntry { map: self, index });
@@ -96,7 +98,7 @@ impl<K: Eq, V> SmallMap<K, V> {
 
     // Puts a new key last under this hash, and lends its value.
     fn insert_new(&mut self, key: Hashed<K>, value: V) -> Result<&mut V, NoRoom<(Hashed<K>, V)>>
-        requires { match_of K.eq self.old.entries key ≡ None }
+        requires { found (K.eq (key_of key)) (hash_of key) self.old.entries ≡ None }
         ensures* writes_back { sem 𝓛 (lends_new K.row V.row K.PartialEq self.entry key result) }
         ensures value { IfOk result (λ p. p.now ≡ value) }
         ensures full { OnErr result (self.old.room ≡ 0) }
@@ -166,7 +168,6 @@ impl<'a, K: Eq, V> OccupiedEntry<'a, K, V> {
 }
 
 impl<'a, K: Eq, V> VacantEntry<'a, K, V> {
-    ghost use Rattle.starlark_hash.specs.HashValue.{key_of};
     ghost use Rattle.starlark_small.specs.MapEntry.{lacking_key, vacant_lends, vacant_map};
 
     /// The key that the map lacks.

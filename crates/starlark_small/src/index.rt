@@ -1,10 +1,11 @@
 //! The index of a list of entries: the hashes of the list, where it is too long to do without. The list stands beside it.
-ghost use Rattle.std.specs.Prelude.{◌≡◌, ℕ, ◌+◌, ◌-◌, ◌^◌, ◌<◌, ◌≤◌, [], List, None, IfSome, true, false, if◌then◌else◌, length, nat_le};
+ghost use Rattle.std.specs.Prelude.{◌≡◌, ℕ, ◌+◌, ◌-◌, ◌^◌, ◌<◌, ◌≤◌, [], List, None, IfOk, IfSome, OnErr, OnOk, true, false, if◌then◌else◌, is_some, length, nat_le};
 ghost use Rattle.std.specs.Option.{option_map};
 ghost use Rattle.starlark_hash.specs.HashValue.{hash_number};
 ghost use Rattle.starlark_small.specs.Hashes.{cleared, forgotten, noted, reversed};
 ghost use Rattle.starlark_small.specs.Index.{IsIndexed, IsIndexedAt, index_room, unindexed};
-ghost use Rattle.starlark_small.specs.IndexCalls.{IsFilled, IsNotedIn, IsRenamed, MakesIndexFor, MakesIndexOf, ReservesAsItIs, ReservesIndex, ShowsTable};
+ghost use Rattle.starlark_small.specs.IndexCalls.{IsFilled, IsNotedIn, IsRenamed, MakesIndexFor, MakesIndexOf, ReservesIndex, ShowsTable};
+ghost use Rattle.starlark_table.specs.Growth.{most_for};
 ghost use Rattle.starlark_vec2.specs.Sort.{Moves};
 
 mod find;
@@ -70,7 +71,8 @@ impl Index {
 
     /// An index of another list, with room for all that the list has room for, if it is too long to do without.
     pub(crate) fn of_other<K, V>(&self, entries: &VecMap<K, V>) -> Result<Self, AllocError>
-        ensures { MakesIndexOf entries.now.entries result }
+        ensures made { MakesIndexOf entries.now.entries result }
+        ensures most { IfOk result (λ index. IfSome index (λ h. length h.list + h.room ≤ most_for entries.now.capacity)) }
     {
         if entries.len() <= UNINDEXED {
             return Ok(Index::none(self.alloc));
@@ -91,25 +93,31 @@ impl Index {
         ensures { ReservesIndex entries.now.entries additional self.old self.new result }
     {
         let len = entries.len();
-        if self.reserve_as_it_is(len, additional)? {
+        if additional <= self.room(len) {
             return Ok(());
         }
         prove!(additional <= entries.capacity() - len);
-        let mut index = Index::with_capacity(self.alloc, (len + additional).max(FIRST))?;
+        let needed = len + additional;
+        match self.table.get_mut() {
+            Some(table) if table.moves_slots() => table.grow(self.alloc, needed),
+            _ => self.make_anew(entries, needed.max(FIRST)),
+        }
+    }
+
+    // Puts another index in the place of this one, with room for this many entries, and fills it from the list.
+    fn make_anew<K, V>(&mut self, entries: &VecMap<K, V>, capacity: usize) -> Result<(), AllocError>
+        requires long { unindexed < capacity }
+        requires fits { length entries.now.entries ≤ capacity }
+        ensures indexed { OnOk result (IsIndexed entries.now.entries self.new) }
+        ensures made { OnOk result (is_some self.new ≡ true) }
+        ensures room { OnOk result (capacity ≤ length entries.now.entries + index_room (length entries.now.entries) self.new) }
+        ensures most { OnOk result (length entries.now.entries + index_room (length entries.now.entries) self.new ≤ most_for capacity) }
+        ensures unchanged { OnErr result (self.new ≡ self.old) }
+    {
+        let mut index = Index::with_capacity(self.alloc, capacity)?;
         index.note_all(entries);
         *self = index;
         Ok(())
-    }
-
-    // Makes that room unless it wants another index: false says so, and that nothing has changed.
-    fn reserve_as_it_is(&mut self, len: usize, additional: usize) -> Result<bool, AllocError>
-        requires { IsIndexedAt len self.old }
-        ensures { ReservesAsItIs len additional self.old self.new result }
-    {
-        match self.table.get_mut() {
-            Some(table) => table.reserve(self.alloc, additional),
-            None => Ok(additional <= UNINDEXED - len),
-        }
     }
 
     /// Lets the index go if the list is short enough to do without.

@@ -1,8 +1,8 @@
 //! `smallmap!`.
 ghost use Rattle.std.specs.Prelude.{◌≡◌, ◌<◌, IfOk, IsErr, IsOk, IsSome, MatchResult};
-ghost use Rattle.starlark_hash.specs.Entries.{match_of};
 ghost use Rattle.starlark_hash.specs.Insert.{insert_entry};
 ghost use Rattle.starlark_small.specs.Insert.{LeavesMemory};
+ghost use Rattle.starlark_small.specs.Lookup.{get};
 ghost use Rattle.starlark_small.specs.Map.{own_hashed};
 
 use crate::SmallMap;
@@ -34,8 +34,8 @@ pub fn inserted<K: Eq + Hash + Drop, V: Drop>(
 ) -> Result<SmallMap<K, V>, AllocError>
     ensures entries { MatchResult map (λ old. IfOk result (λ new. new.entries ≡ insert_entry K.eq old.entries (own_hashed K.hash_input key) value)) (λ _. IsErr result) }
     ensures succeeds { IfOk map (λ old. 0 < old.room → IsOk result) }
-    ensures present { IfOk map (λ old. IsSome (match_of K.eq old.entries (own_hashed K.hash_input key)) → IsOk result) }
-    ensures memory { IfOk map (λ old. IfOk result (LeavesMemory K.eq old (own_hashed K.hash_input key))) }
+    ensures present { IfOk map (λ old. IsSome (get K.eq K.hash_input old key) → IsOk result) }
+    ensures memory { IfOk map (λ old. IfOk result (λ new. LeavesMemory K.eq old new (own_hashed K.hash_input key))) }
 {
     let mut map = map?;
     match map.insert(key, value) {

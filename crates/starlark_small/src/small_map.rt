@@ -1,6 +1,6 @@
 //! The map. It alone sees its list of entries and their index.
 ghost use Rattle.starlark_small.specs.New.{IsBare, MakesEmptyFor};
-ghost use Rattle.std.specs.Prelude.{◌≡◌, ◌-◌, ◌<◌, ◌≤◌, ◌==◌, length, is_some, IfSome, IsPermutation, IsSome};
+ghost use Rattle.std.specs.Prelude.{◌≡◌, ◌-◌, ◌<◌, ◌≤◌, ◌==◌, ◌^◌, length, is_some, IfSome, IsPermutation, IsSome};
 ghost use Rattle.starlark_small.specs.Index.{positions, unindexed};
 ghost use Rattle.starlark_table.specs.Table.{members};
 
@@ -75,8 +75,10 @@ impl<K: Eq, V> SmallMap<K, V> {
     /// How many entries there are.
     #[inline]
     pub fn len(&self) -> usize
-        ensures { result ≡ length self.now.entries }
+        ensures len { result ≡ length self.now.entries }
+        ensures few { length self.now.entries < 2 ^ 63 }
     {
+        prove!(self.entries.iter_hashed().len() == self.entries.len());
         self.entries.len()
     }
 

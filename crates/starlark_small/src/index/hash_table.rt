@@ -4,8 +4,9 @@ ghost use Rattle.std.specs.Prelude.{◌≡◌, ℕ, ◌+◌, ◌-◌, ◌^◌, �
 ghost use Rattle.starlark_hash.specs.HashValue.{hash_number};
 ghost use Rattle.starlark_hash.specs.Search.{CanSearch, Searches};
 ghost use Rattle.starlark_small.specs.Hashes.{NotesNew, cleared, forgotten, hash_under, indices_under, noted, numbered, reversed};
-ghost use Rattle.starlark_small.specs.IndexCalls.{GrowsHashes, ReservesHashes};
+ghost use Rattle.starlark_small.specs.IndexCalls.{GrowsHashes};
 ghost use Rattle.starlark_small.specs.Slots.{IsSited};
+ghost use Rattle.starlark_table.specs.Growth.{most_for};
 ghost use Rattle.starlark_table.specs.Table.{members};
 ghost use Rattle.starlark_vec2.specs.Sort.{Moves};
 
@@ -19,8 +20,8 @@ use std::alloc::{AllocError, Global};
 use std::marker::Model;
 use std::mem;
 
-// The greatest length that an index is made for: its table has at most 2^32 slots, so 32 bits number them and the indices.
-const LONGEST: usize = 1 << 30;
+// The greatest length that an index is made for: what 2^32 slots may hold, so that 32 bits number the slots.
+const LONGEST: usize = 13 << 28;
 
 // The greatest length up to which a larger table is filled from the list: its hashes are read in order there, and the slots
 // still lie in a processor's cache. A longer one is filled from the old slots, whose order is that of the new ones.
@@ -65,10 +66,12 @@ impl Model for HashTable {
 }
 
 impl HashTable {
-    /// No hash, and room for this many.
+    /// No hash, and room for this many, of which there are some.
     pub(super) fn with_capacity(alloc: Global, capacity: usize) -> Result<Self, AllocError>
+        requires { 0 < capacity }
         ensures empty { IfOk result (λ t. t.list ≡ []) }
         ensures room { IfOk result (λ t. capacity ≤ t.room) }
+        ensures most { IfOk result (λ t. t.room ≤ most_for capacity) }
     {
         if capacity > LONGEST {
             return Err(AllocError);
@@ -106,32 +109,19 @@ impl HashTable {
         self.table.room()
     }
 
-    /// Makes room for this many further hashes, unless another table, filled from the list, is quicker: false says so, and
-    /// that nothing has changed.
-    pub(super) fn reserve(&mut self, alloc: Global, additional: usize) -> Result<bool, AllocError>
-        ensures { ReservesHashes additional self.old self.new result }
+    /// Whether a larger table is filled from the old slots, and not from the list.
+    pub(super) fn moves_slots(&self) -> bool {
+        self.len() <= UNINDEXED || self.len() > FILLED_FROM_LIST
+    }
+
+    /// Makes room for this many hashes in all, which is more than there is.
+    pub(super) fn grow(&mut self, alloc: Global, needed: usize) -> Result<(), AllocError>
+        requires { length self.old.list + self.old.room < needed }
+        ensures { GrowsHashes needed self.old self.new result }
     {
-        if additional <= self.room() {
-            return Ok(true);
-        }
-        let len = self.len();
-        let needed = len.saturating_add(additional);
         if needed > LONGEST {
             return Err(AllocError);
         }
-        if UNINDEXED < len && len <= FILLED_FROM_LIST {
-            return Ok(false);
-        }
-        self.grow(alloc, needed)?;
-        Ok(true)
-    }
-
-    // Makes room for this many hashes in all, which is more than there is.
-    fn grow(&mut self, alloc: Global, needed: usize) -> Result<(), AllocError>
-        requires more { length self.old.list + self.old.room < needed }
-        requires few { needed ≤ 2 ^ 30 }
-        ensures { GrowsHashes needed self.old self.new result }
-    {
         let mut old: Indices = ReadyTable::keeping(alloc, needed)?;
         self.cells.0.reserve_exact(old.room() - self.cells.0.len())?;
         mem::swap(&mut self.table, &mut old);
@@ -162,7 +152,7 @@ impl HashTable {
     {
         // A hash is below 2^32.
         let _number = hash.get();
-        let Some(slot) = self.table.vacancy(hash) else {
+        let Some(slot) = self.table.vacancy_unchecked(hash) else {
             return false;
         };
         if self.table.room() == 0 {
@@ -245,7 +235,7 @@ impl HashTable {
         requires { CanSearch F.FnMut (indices_under (hash_under hash) self.now.list) eq }
         ensures { (last : F) × Searches F.FnMut (indices_under (hash_under hash) self.now.list) eq result last }
     {
-        let index = self.table.find_item(hash, eq)?;
+        let index = self.table.find_item_unchecked(hash, eq)?;
         Some(*index as usize)
     }
 }

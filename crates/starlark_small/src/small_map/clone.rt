@@ -7,9 +7,10 @@ use crate::index::Index;
 use std::alloc::AllocError;
 
 impl<K: Eq + Clone, V: Clone> SmallMap<K, V> {
-    /// A map of clones of the entries under the same hashes, in their order, whose capacity is their number. It has an
-    /// index only where the list is too long to do without. Where memory is refused, also to the clone of a key or a
-    /// value, nothing is made. Without entries no memory is needed. Required is that a clone of a key is equal to it.
+    /// A map of clones of the entries under the same hashes, in their order, so that the same keys are found in it. Its
+    /// capacity is their number, and it has an index exactly where it is longer than `UNINDEXED`. Where memory is
+    /// refused, also to the clone of a key or a value, nothing is made. Without entries it is not refused. Required is
+    /// that a clone of a key is equal to it.
     pub fn clone(&self) -> Result<Self, AllocError>
         // A clone of a key is equal to it.
         requires { IsEqualClone K.eq K.is_clone }

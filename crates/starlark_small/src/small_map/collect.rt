@@ -1,7 +1,10 @@
 //! `SmallMap`s from the items of iterators.
-ghost use Rattle.std.specs.Prelude.{◌≡◌, ◌+◌, ◌≤◌, None, IfOk, IsOk};
+ghost use Rattle.std.specs.Prelude.{◌≡◌, ◌+◌, ◌≤◌, None, IfOk, IsOk, OnOk, is_some, length, true};
 ghost use Rattle.std.specs.Iterator.{IsFiniteIterable, IsFinite, size};
-ghost use Rattle.starlark_small.specs.Collect.{Collects, FindsLast, InsertsItems, InsertsEach, IsExtended, KeepsOwn, own_entry, IsMadeOf, TakesIn};
+ghost use Rattle.starlark_hash.specs.declared.hash_value.StarlarkHashValue.{StarlarkHashValue};
+ghost use Rattle.starlark_hash.specs.Lookup.{found};
+ghost use Rattle.starlark_small.specs.Collect.{Collects, Extends, FindsLast, InsertsItems, InsertsEach, IsExtended, KeepsOwn, own_entry, IsMadeOf};
+ghost use Rattle.starlark_small.specs.Lookup.{AreOwn, get};
 
 use super::SmallMap;
 use crate::index::UNINDEXED;
@@ -16,7 +19,16 @@ impl<K: Eq + Hash + Drop, V: Drop> SmallMap<K, V> {
     /// insertions one after the other. The iterator must end.
     pub fn extend<I: IntoIterator<Item = (K, V)>>(&mut self, iter: I) -> Result<(), AllocError>
         requires { IsFiniteIterable I.into_iter_gives I.IntoIter.can_next I.IntoIter.remaining iter }
-        ensures { TakesIn K.eq K.hash_input I.IntoIter.next_gives I.into_iter_gives I.IntoIter.remaining iter self.old self.new result }
+        // Done: each key has the last value that the items have for it, or else the one that it had.
+        ensures found { OnOk result (FindsLast K.eq K.hash_input I.IntoIter.next_gives I.into_iter_gives iter (get K.eq K.hash_input self.old) self.new) }
+        // Done or refused: the items were inserted, or those before a new key; what was there stays, under whatever hash.
+        ensures entries { Extends K.eq (own_entry K.hash_input) I.IntoIter.next_gives I.into_iter_gives iter self.old.entries self.new.entries result }
+        ensures stays { (under : StarlarkHashValue) (key : K) → is_some (found (K.eq key) under self.old.entries) ≡ true → is_some (found (K.eq key) under self.new.entries) ≡ true }
+        ensures longer { length self.old.entries ≤ length self.new.entries }
+        ensures own { AreOwn K.hash_input self.old → AreOwn K.hash_input self.new }
+        // With room for all items no memory is asked for; each item uses up one at most.
+        ensures memory { IsExtended ((it : _) → I.into_iter_gives iter it → size (I.IntoIter.remaining it) ≤ self.old.room) self.old self.new result }
+        ensures left { (it : _) × I.into_iter_gives iter it × (self.old.room ≤ self.new.room + size (I.IntoIter.remaining it)) }
     {
         self.insert_items(iter.into_iter())
     }
@@ -24,7 +36,8 @@ impl<K: Eq + Hash + Drop, V: Drop> SmallMap<K, V> {
     /// A map of the items, inserted in their order, each under its key's own hash. It begins with room for the lower
     /// bound of the iterator's `size_hint`, and from there the capacity grows as by insertions one after the other.
     /// Where memory is refused, nothing is made and the items are dropped. There is an index exactly where that room or
-    /// the length is above `UNINDEXED`. Without items it is not refused. The iterator must end.
+    /// the length is above `UNINDEXED`. Where the iterator bounds that it has no items, it is not refused. The iterator
+    /// must end.
     pub fn from_iter<I: IntoIterator<Item = (K, V)>>(
         alloc: Global,
         iter: I,
@@ -61,7 +74,8 @@ impl<K: Eq + Hash + Drop, V: Drop> SmallMap<K, V> {
 }
 
 impl<K: Eq + Drop, V: Drop> SmallMap<K, V> {
-    /// As `from_iter`, of keys that stand under hashes already.
+    /// A map of the items, inserted in their order, each under the hash that it came with. Room, memory and refusals are
+    /// those of `from_iter`.
     pub fn from_iter_hashed<I: IntoIterator<Item = (Hashed<K>, V)>>(
         alloc: Global,
         iter: I,

@@ -1,12 +1,15 @@
 //! What a `SmallMap` has: entries by hash and key, by key alone under its own hash, and by index.
-ghost use Rattle.std.specs.Prelude.{◌≡◌, ◌-◌, ◌<◌, slice_get, length, is_some, Some};
+ghost use Rattle.std.specs.List.{IsAmong};
+ghost use Rattle.std.specs.Prelude.{◌≡◌, ◌-◌, ◌<◌, slice_get, length, is_some, map, IfSome, IsTrue, Some};
 ghost use Rattle.std.specs.Map.Iter.{deref_pair};
 ghost use Rattle.std.specs.Option.{option_copied, option_map};
 ghost use Rattle.starlark_hash.specs.HashValue.{hash_of, key_of};
 ghost use Rattle.starlark_hash.specs.Hasher.{own_hash};
-ghost use Rattle.starlark_hash.specs.Entries.{IsSingle, pair_of};
+ghost use Rattle.starlark_hash.specs.Entries.{IsSingle, entry_value, pair_of, position_of};
+ghost use Rattle.starlark_hash.specs.Lookup.{found, found_key};
 ghost use Rattle.starlark_hash.specs.Search.{CanSearch, Searches, keys_under};
-ghost use Rattle.starlark_small.specs.Lookup.{FindsEntry, FindsValue, NamesIndex, TellsPresence};
+ghost use Rattle.starlark_small.specs.Lookup.{HasKey, NamesIndex, contains, get, get_key};
+ghost use Rattle.starlark_small.specs.Map.{own_match};
 
 use super::SmallMap;
 use starlark_hash::{Equivalent, Hashed, Query, StarlarkHashValue};
@@ -17,17 +20,23 @@ impl<K: Eq, V> SmallMap<K, V> {
     #[tactic(auto, using(crate::proofs::CallerLookup::look_ups))]
     #[inline(always)]
     pub fn get_hashed<Q: Query<K>>(&self, key: Hashed<Q>) -> Option<&V>
-        ensures { FindsValue (Q.stands_for (key_of key)) (hash_of key) self.now (option_copied result) }
+        // What is found comes back. It is one of the map's values, and the query stands for one of its keys.
+        ensures value { option_copied result ≡ found (Q.stands_for (key_of key)) (hash_of key) self.now.entries }
+        ensures member { IfSome (option_copied result) (λ value. IsAmong (map entry_value self.now.entries) value) }
+        ensures key { IfSome result (λ _. HasKey (Q.stands_for (key_of key)) self.now) }
     {
         let index = self.get_index_of_hashed(key)?;
         let (_, value) = self.entries.get_unchecked(index);
         Some(value)
     }
 
-    /// As `get_hashed`, by an `Equivalent` that is handed over and dropped.
+    /// The value under this hash whose key is equivalent to the query, which is passed by value and dropped.
     #[inline]
     pub fn get_hashed_by_value<Q: Equivalent<K> + Drop>(&self, key: Hashed<Q>) -> Option<&V>
-        ensures { FindsValue (Q.equivalent (key_of key)) (hash_of key) self.now (option_copied result) }
+        // What is found comes back. It is one of the map's values, and the query stands for one of its keys.
+        ensures value { option_copied result ≡ found (Q.equivalent (key_of key)) (hash_of key) self.now.entries }
+        ensures member { IfSome (option_copied result) (λ value. IsAmong (map entry_value self.now.entries) value) }
+        ensures key { IfSome result (λ _. HasKey (Q.equivalent (key_of key)) self.now) }
     {
         self.get_hashed(key.as_ref())
     }
@@ -36,7 +45,10 @@ impl<K: Eq, V> SmallMap<K, V> {
     #[tactic(auto, using(crate::proofs::CallerLookup::look_ups))]
     #[inline(always)]
     pub fn get_full_hashed<Q: Query<K>>(&self, key: Hashed<Q>) -> Option<(usize, &K, &V)>
-        ensures { FindsEntry (Q.stands_for (key_of key)) (hash_of key) self.now result }
+        // The index of what is found, with the stored key and the value.
+        ensures index { option_map (λ e. e.0) result ≡ position_of (hash_of key) (Q.stands_for (key_of key)) self.now.entries }
+        ensures key { option_map (λ e. e.1.now) result ≡ found_key (Q.stands_for (key_of key)) (hash_of key) self.now.entries }
+        ensures value { option_map (λ e. e.2.now) result ≡ found (Q.stands_for (key_of key)) (hash_of key) self.now.entries }
     {
         let index = self.get_index_of_hashed(key)?;
         let (key, value) = self.entries.get_unchecked(index);
@@ -68,7 +80,7 @@ impl<K: Eq, V> SmallMap<K, V> {
         self.index.find(&self.entries, hash, eq)
     }
 
-    /// As `get_index_of_hashed`, by an `Equivalent` that is handed over and dropped.
+    /// The index under this hash whose key is equivalent to the query, which is passed by value and dropped.
     #[inline]
     pub fn get_index_of_hashed_by_value<Q: Equivalent<K> + Drop>(
         &self,
@@ -83,15 +95,19 @@ impl<K: Eq, V> SmallMap<K, V> {
     #[tactic(auto, using(crate::proofs::CallerLookup::look_ups))]
     #[inline(always)]
     pub fn contains_key_hashed<Q: Query<K>>(&self, key: Hashed<Q>) -> bool
-        ensures { TellsPresence (Q.stands_for (key_of key)) (hash_of key) self.now result }
+        // Whether something is found; then the query stands for one of the map's keys.
+        ensures found { result ≡ is_some (found (Q.stands_for (key_of key)) (hash_of key) self.now.entries) }
+        ensures key { IsTrue result → HasKey (Q.stands_for (key_of key)) self.now }
     {
         self.get_index_of_hashed(key).is_some()
     }
 
-    /// As `contains_key_hashed`, by an `Equivalent` that is handed over and dropped.
+    /// Whether an entry under this hash has a key that is equivalent to the query, which is passed by value and dropped.
     #[inline]
     pub fn contains_key_hashed_by_value<Q: Equivalent<K> + Drop>(&self, key: Hashed<Q>) -> bool
-        ensures { TellsPresence (Q.equivalent (key_of key)) (hash_of key) self.now result }
+        // Whether something is found; then the query stands for one of the map's keys.
+        ensures found { result ≡ is_some (found (Q.equivalent (key_of key)) (hash_of key) self.now.entries) }
+        ensures key { IsTrue result → HasKey (Q.equivalent (key_of key)) self.now }
     {
         self.contains_key_hashed(key.as_ref())
     }
@@ -99,7 +115,10 @@ impl<K: Eq, V> SmallMap<K, V> {
     /// The value under the query's own hash whose key the query stands for.
     #[inline(always)]
     pub fn get<Q: Query<K> + Hash>(&self, key: Q) -> Option<&V>
-        ensures { FindsValue (Q.stands_for key) (own_hash Q.hash_input key) self.now (option_copied result) }
+        // What is found comes back. It is one of the map's values, and the query stands for one of its keys.
+        ensures value { option_copied result ≡ get Q.stands_for Q.hash_input self.now key }
+        ensures member { IfSome (option_copied result) (λ value. IsAmong (map entry_value self.now.entries) value) }
+        ensures key { IfSome result (λ _. HasKey (Q.stands_for key) self.now) }
     {
         self.get_hashed(Hashed::new(key))
     }
@@ -107,7 +126,10 @@ impl<K: Eq, V> SmallMap<K, V> {
     /// The index under the query's own hash whose key the query stands for, with the key and the value there.
     #[inline(always)]
     pub fn get_full<Q: Query<K> + Hash>(&self, key: Q) -> Option<(usize, &K, &V)>
-        ensures { FindsEntry (Q.stands_for key) (own_hash Q.hash_input key) self.now result }
+        // The index of what is found, with the stored key and the value.
+        ensures index { option_map (λ e. e.0) result ≡ own_match Q.stands_for Q.hash_input self.now.entries key }
+        ensures key { option_map (λ e. e.1.now) result ≡ get_key Q.stands_for Q.hash_input self.now key }
+        ensures value { option_map (λ e. e.2.now) result ≡ get Q.stands_for Q.hash_input self.now key }
     {
         self.get_full_hashed(Hashed::new(key))
     }
@@ -123,7 +145,9 @@ impl<K: Eq, V> SmallMap<K, V> {
     /// Whether there is an entry under the query's own hash whose key the query stands for.
     #[inline(always)]
     pub fn contains_key<Q: Query<K> + Hash>(&self, key: Q) -> bool
-        ensures { TellsPresence (Q.stands_for key) (own_hash Q.hash_input key) self.now result }
+        // Whether something is found; then the query stands for one of the map's keys.
+        ensures found { result ≡ contains Q.stands_for Q.hash_input self.now key }
+        ensures key { IsTrue result → HasKey (Q.stands_for key) self.now }
     {
         self.contains_key_hashed(Hashed::new(key))
     }

@@ -1,11 +1,12 @@
 //! A value of a `SmallMap` to be written. Its key and its hash stay.
-ghost use Rattle.std.specs.Prelude.{◌≡◌, ◌<◌, length, map, Some};
+ghost use Rattle.std.specs.Prelude.{◌≡◌, ◌<◌, length, map, IfSome, Some};
 ghost use Rattle.std.specs.Borrow.{sem};
 ghost use Rattle.std.specs.Option.{option_copied_mut};
 ghost use Rattle.starlark_hash.specs.Entries.{value_at};
 ghost use Rattle.starlark_hash.specs.HashValue.{hash_of, key_of};
 ghost use Rattle.starlark_hash.specs.Hasher.{own_hash};
-ghost use Rattle.starlark_small.specs.Lookup.{FindsValue};
+ghost use Rattle.starlark_hash.specs.Lookup.{found};
+ghost use Rattle.starlark_small.specs.Lookup.{HasKey, get};
 ghost use Rattle.starlark_small.specs.Lend.{lends_value, lends_get};
 
 use super::SmallMap;
@@ -17,8 +18,11 @@ impl<K: Eq, V> SmallMap<K, V> {
     /// and all else stays. `None` where there is no such entry, and then the map is as it was.
     #[inline(always)]
     pub fn get_mut_hashed<Q: Query<K>>(&mut self, key: Hashed<Q>) -> Option<&mut V>
+        // What the map is once the reference has ended.
         ensures* writes_back { sem 𝓛 (lends_get K.row V.row K.PartialEq self.entry (Q.stands_for (key_of key)) (hash_of key) result) }
-        ensures finds { FindsValue (Q.stands_for (key_of key)) (hash_of key) self.old (option_copied_mut result) }
+        // What is found comes back; then the query stands for one of the map's keys.
+        ensures value { option_copied_mut result ≡ found (Q.stands_for (key_of key)) (hash_of key) self.old.entries }
+        ensures key { IfSome result (λ _. HasKey (Q.stands_for (key_of key)) self.old) }
     {
         match self.get_index_of_hashed(key) {
             Some(index) => Some(self.value_at_mut(index)),
@@ -30,8 +34,11 @@ impl<K: Eq, V> SmallMap<K, V> {
     /// left in it, and all else stays. `None` where there is no such entry, and then the map is as it was.
     #[inline(always)]
     pub fn get_mut<Q: Query<K> + Hash>(&mut self, key: Q) -> Option<&mut V>
+        // What the map is once the reference has ended.
         ensures* writes_back { sem 𝓛 (lends_get K.row V.row K.PartialEq self.entry (Q.stands_for key) (own_hash Q.hash_input key) result) }
-        ensures finds { FindsValue (Q.stands_for key) (own_hash Q.hash_input key) self.old (option_copied_mut result) }
+        // What is found comes back; then the query stands for one of the map's keys.
+        ensures value { option_copied_mut result ≡ get Q.stands_for Q.hash_input self.old key }
+        ensures key { IfSome result (λ _. HasKey (Q.stands_for key) self.old) }
     {
         self.get_mut_hashed(Hashed::new(key))
     }

@@ -1,14 +1,16 @@
 //! What puts entries into a `SmallMap`.
-ghost use Rattle.std.specs.Prelude.{◌<◌, ◌≡◌, length, slice_get, Some, None, IfErr, IfOk, OnErr};
-ghost use Rattle.starlark_small.specs.Insert.{Inserts, PutsLast};
-ghost use Rattle.starlark_small.specs.Map.{own_hashed};
 ghost use Rattle.std.specs.Borrow.{sem};
+ghost use Rattle.std.specs.Hash.{HashWrites};
 ghost use Rattle.std.specs.Option.{option_map};
-ghost use Rattle.starlark_hash.specs.Entries.{match_of, pair_of};
-ghost use Rattle.starlark_hash.specs.Hasher.{own_hash};
+ghost use Rattle.std.specs.Prelude.{◌<◌, ◌≡◌, length, slice_get, Some, None, IfErr, IfOk, OnErr, OnOk};
+ghost use Rattle.starlark_hash.specs.Entries.{pair_of};
 ghost use Rattle.starlark_hash.specs.HashValue.{hash_of, key_of};
-ghost use Rattle.starlark_hash.specs.Lookup.{found};
+ghost use Rattle.starlark_hash.specs.Hasher.{own_hash};
+ghost use Rattle.starlark_hash.specs.Lookup.{found, Writes};
+ghost use Rattle.starlark_small.specs.Insert.{Inserts, IsInserted, IsRefused, IsRefusedInsertion, LeavesMemory};
 ghost use Rattle.starlark_small.specs.Lend.{lends_inserted, lends_value, unhashed};
+ghost use Rattle.starlark_small.specs.Lookup.{AreOwn, Updates, get};
+ghost use Rattle.starlark_small.specs.Map.{own_hashed};
 
 use super::SmallMap;
 use crate::index::UNINDEXED;
@@ -17,13 +19,26 @@ use std::hash::Hash;
 use std::mem;
 
 impl<K: Eq, V> SmallMap<K, V> {
-    /// Inserts under the key's own hash, as `insert_hashed` does under one that is brought.
-    #[tactic(auto, using(crate::proofs::CallerInsert::handed_on))]
+    /// Inserts a value under the key's own hash. If the key is there, its index and its stored key stay, its value is
+    /// replaced, and the old value is returned; a new key is appended. Only a new key is refused, where there is no room
+    /// and no memory is found.
     #[inline(always)]
     pub fn insert(&mut self, key: K, value: V) -> Result<Option<V>, NoRoom<(K, V)>>
     where
         K: Hash + Drop,
-        ensures inserts { Inserts K.eq (own_hashed K.hash_input key) value (key, value) (λ was. was) self.old self.new result }
+        // Done: the value that was there comes back, the key has this one, and every other key has what it had.
+        ensures old { IfOk result (λ was. was ≡ get K.eq K.hash_input self.old key) }
+        ensures updates { OnOk result (Updates K.eq K.hash_input self.old self.new key (Some value)) }
+        // The list now: a key that is there keeps its index and its stored key, and a new one is appended.
+        ensures inserts { OnOk result (Inserts K.eq self.old self.new (own_hashed K.hash_input key) value) }
+        // Keys that are under their own hashes stay so, also where this one is refused.
+        ensures own { AreOwn K.hash_input self.old → AreOwn K.hash_input self.new }
+        // Refused: only a new key, only without room. Key and value come back, and entries and index are unchanged; the
+        // capacity may have grown.
+        ensures refused { OnErr result (IsRefusedInsertion K.eq self.old self.new (own_hashed K.hash_input key)) }
+        ensures handed_back { IfErr result (λ refused. refused.0 ≡ (key, value)) }
+        // Done or refused: no room is lost, and with room to spare no memory is asked for.
+        ensures memory { LeavesMemory K.eq self.old self.new (own_hashed K.hash_input key) }
     {
         match self.insert_hashed(Hashed::new(key), value) {
             Ok(old) => Ok(old),
@@ -31,12 +46,12 @@ impl<K: Eq, V> SmallMap<K, V> {
         }
     }
 
-    /// Inserts under this hash. A key that is there keeps its index and its stored key and takes the value, whose old
-    /// one is answered; a new key goes last. Only a new key is refused, where there is no room and no memory is found:
-    /// it comes back with its value, and entries and index stay. With room to spare capacity and index stay too. Else
-    /// the capacity grows as that of a `Vec2` does, and may have grown where the key is refused: a second refusal grows
-    /// it no further. There is an index afterwards exactly where there was one, or where the list is now longer than
-    /// `UNINDEXED`. Length plus room never falls.
+    /// Inserts a value under a precomputed hash. If the key is there, its index and its stored key stay, its value is
+    /// replaced, and the old value is returned; a new key is appended. Only a new key is refused, where there is no
+    /// room and no memory is found. With room to spare, capacity and index stay. Otherwise the capacity grows as that
+    /// of a `Vec2` does, and may have grown where the key is refused; a second refusal grows it no further. There is an
+    /// index afterwards exactly where there was one, or where the list is now longer than `UNINDEXED`. Length plus room
+    /// never falls.
     #[inline(always)]
     pub fn insert_hashed(
         &mut self,
@@ -45,7 +60,19 @@ impl<K: Eq, V> SmallMap<K, V> {
     ) -> Result<Option<V>, NoRoom<(Hashed<K>, V)>>
     where
         K: Drop,
-        ensures inserts { Inserts K.eq key value (key, value) (λ was. was) self.old self.new result }
+        // Done: the value that was there comes back, the key has this one, and every other key has what it had.
+        ensures old { IfOk result (λ was. was ≡ found (K.eq (key_of key)) (hash_of key) self.old.entries) }
+        ensures updates { OnOk result (Writes K.eq (K.eq (key_of key)) (hash_of key) self.old.entries self.new.entries (Some value)) }
+        // The list now: a key that is there keeps its index and its stored key, and a new one is appended.
+        ensures inserts { OnOk result (Inserts K.eq self.old self.new key value) }
+        // Keys that are under their own hashes stay so, also where this one is refused.
+        ensures own { (feeds : K → HashWrites) → hash_of key ≡ own_hash feeds (key_of key) → AreOwn feeds self.old → AreOwn feeds self.new }
+        // Refused: only a new key, only without room. Key and value come back, and entries and index are unchanged; the
+        // capacity may have grown.
+        ensures refused { OnErr result (IsRefusedInsertion K.eq self.old self.new key) }
+        ensures handed_back { IfErr result (λ refused. refused.0 ≡ (key, value)) }
+        // Done or refused: no room is lost, and with room to spare no memory is asked for.
+        ensures memory { LeavesMemory K.eq self.old self.new key }
     {
         // Mostly one look at the index shows that the key is new, and the only one.
         let spare = self.entries.capacity() - self.entries.len();
@@ -56,9 +83,8 @@ impl<K: Eq, V> SmallMap<K, V> {
         self.insert_by_search(key, value)
     }
 
-    // The same by a search. It is a call, so that what is inlined is the look alone.
+    // Inserts by a search for the key. It is a call, so that only the look at the index is inlined.
     #[inline(never)]
-    #[tactic(auto, using(crate::proofs::CallerInsert::handed_on))]
     fn insert_by_search(
         &mut self,
         key: Hashed<K>,
@@ -66,7 +92,19 @@ impl<K: Eq, V> SmallMap<K, V> {
     ) -> Result<Option<V>, NoRoom<(Hashed<K>, V)>>
     where
         K: Drop,
-        ensures inserts { Inserts K.eq key value (key, value) (λ was. was) self.old self.new result }
+        // Done: the value that was there comes back, the key has this one, and every other key has what it had.
+        ensures old { IfOk result (λ was. was ≡ found (K.eq (key_of key)) (hash_of key) self.old.entries) }
+        ensures updates { OnOk result (Writes K.eq (K.eq (key_of key)) (hash_of key) self.old.entries self.new.entries (Some value)) }
+        // The list now: a key that is there keeps its index and its stored key, and a new one is appended.
+        ensures inserts { OnOk result (Inserts K.eq self.old self.new key value) }
+        // Keys that are under their own hashes stay so, also where this one is refused.
+        ensures own { (feeds : K → HashWrites) → hash_of key ≡ own_hash feeds (key_of key) → AreOwn feeds self.old → AreOwn feeds self.new }
+        // Refused: only a new key, only without room. Key and value come back, and entries and index are unchanged; the
+        // capacity may have grown.
+        ensures refused { OnErr result (IsRefusedInsertion K.eq self.old self.new key) }
+        ensures handed_back { IfErr result (λ refused. refused.0 ≡ (key, value)) }
+        // Done or refused: no room is lost, and with room to spare no memory is asked for.
+        ensures memory { LeavesMemory K.eq self.old self.new key }
     {
         prove!(self.index().is_some() || self.len() <= UNINDEXED);
         match self.get_index_of_hashed(key.as_ref()) {
@@ -78,7 +116,9 @@ impl<K: Eq, V> SmallMap<K, V> {
         }
     }
 
-    /// Inserts a new key under its own hash, as `insert_hashed_unique_unchecked` does under one that is brought.
+    /// Appends a new key under its own hash, without a look-up, and lends it with its value. The map ends with what is
+    /// left in the value. The key is refused where there is no room and no memory is found: then entries and index are
+    /// unchanged.
     pub fn insert_unique_unchecked(
         &mut self,
         key: K,
@@ -86,7 +126,7 @@ impl<K: Eq, V> SmallMap<K, V> {
     ) -> Result<(&K, &mut V), NoRoom<(K, V)>>
     where
         K: Hash,
-        requires { match_of K.eq self.old.entries (own_hashed K.hash_input key) ≡ None }
+        requires { get K.eq K.hash_input self.old key ≡ None }
         ensures* writes_back { sem 𝓛 (lends_inserted K.row V.row K.PartialEq self.entry (own_hashed K.hash_input key) result) }
         ensures pair { IfOk result (λ p. (p.0.now ≡ key) × (p.1.now ≡ value)) }
         ensures full { OnErr result (self.old.room ≡ 0) }
@@ -95,16 +135,15 @@ impl<K: Eq, V> SmallMap<K, V> {
         without_hash(self.insert_hashed_unique_unchecked(Hashed::new(key), value))
     }
 
-    /// Inserts a key that is new under this hash, which is required and not looked for, and lends it with its value.
-    /// The entry goes last, and the map ends with what is left in the value. It is refused where there is no room and
-    /// no memory is found: then it comes back, and entries and index stay. Capacity, room and index are left as
-    /// `insert_hashed` leaves them.
+    /// Appends a key that is new under a precomputed hash, without a look-up, and lends it with its value. The map ends
+    /// with what is left in the value. The key is refused where there is no room and no memory is found: then entries and
+    /// index are unchanged. Capacity, room and index are left as `insert_hashed` leaves them.
     pub fn insert_hashed_unique_unchecked(
         &mut self,
         key: Hashed<K>,
         value: V,
     ) -> Result<(&K, &mut V), NoRoom<(Hashed<K>, V)>>
-        requires { match_of K.eq self.old.entries key ≡ None }
+        requires { found (K.eq (key_of key)) (hash_of key) self.old.entries ≡ None }
         ensures* writes_back { sem 𝓛 (lends_inserted K.row V.row K.PartialEq self.entry key result) }
         ensures pair { IfOk result (λ p. (p.0.now ≡ key_of key) × (p.1.now ≡ value)) }
         ensures full { OnErr result (self.old.room ≡ 0) }
@@ -116,18 +155,24 @@ impl<K: Eq, V> SmallMap<K, V> {
         }
     }
 
-    /// Puts a new key last under its own hash, and answers its index. It is refused where there is no room and no
-    /// memory is found: then it comes back, and entries and index stay. Rust's crate has no such
-    /// call: `insert_unique_unchecked` lends the entry, this one counts to it.
-    #[tactic(auto, using(crate::proofs::CallerInsert::handed_on))]
+    /// Appends a new key under its own hash, without a look-up, and returns its index. It is refused where there is no
+    /// room and no memory is found. Rust's crate has no such call: `insert_unique_unchecked` lends the entry, and this
+    /// call returns a number, so that more can be said of it.
     pub fn push_own(&mut self, key: K, value: V) -> Result<usize, NoRoom<(K, V)>>
     where
         K: Hash,
-        requires { match_of K.eq self.old.entries (own_hashed K.hash_input key) ≡ None }
+        requires { get K.eq K.hash_input self.old key ≡ None }
+        // Done: the index of the new entry comes back, which is the last; its key has the value, and every other key has
+        // what it had.
         ensures index { IfOk result (λ i. i ≡ length self.old.entries) }
-        ensures puts_last { PutsLast (own_hashed K.hash_input key) value (key, value) self.old self.new result }
-        ensures inserts { Inserts K.eq (own_hashed K.hash_input key) value (key, value) (λ _. length self.old.entries) self.old self.new result }
-        ensures lacking { found (K.eq key) (own_hash K.hash_input key) self.old.entries ≡ None }
+        ensures inserted { OnOk result (IsInserted self.old self.new (own_hashed K.hash_input key) value) }
+        ensures updates { OnOk result (Updates K.eq K.hash_input self.old self.new key (Some value)) }
+        // Keys that are under their own hashes stay so, also where this one is refused.
+        ensures own { AreOwn K.hash_input self.old → AreOwn K.hash_input self.new }
+        // Refused: only without room. Key and value come back, and entries and index are unchanged.
+        ensures refused { OnErr result (IsRefused self.old self.new) }
+        ensures full { OnErr result (self.old.room ≡ 0) }
+        ensures handed_back { IfErr result (λ refused. refused.0 ≡ (key, value)) }
     {
         match self.push(Hashed::new(key), value) {
             Ok(index) => Ok(index),
@@ -135,13 +180,21 @@ impl<K: Eq, V> SmallMap<K, V> {
         }
     }
 
-    /// Puts a new key last under this hash, and answers its index, as [`SmallMap::push_own`] does.
+    /// Appends a key that is new under a precomputed hash, without a look-up, and returns its index. It is refused where
+    /// there is no room and no memory is found.
     pub fn push(&mut self, key: Hashed<K>, value: V) -> Result<usize, NoRoom<(Hashed<K>, V)>>
-        requires { match_of K.eq self.old.entries key ≡ None }
+        requires { found (K.eq (key_of key)) (hash_of key) self.old.entries ≡ None }
+        // Done: the index of the new entry comes back, which is the last; its key has the value, and every other key has
+        // what it had.
         ensures index { IfOk result (λ i. i ≡ length self.old.entries) }
-        ensures puts_last { PutsLast key value (key, value) self.old self.new result }
-        ensures inserts { Inserts K.eq key value (key, value) (λ _. length self.old.entries) self.old self.new result }
-        ensures lacking { found (K.eq (key_of key)) (hash_of key) self.old.entries ≡ None }
+        ensures inserted { OnOk result (IsInserted self.old self.new key value) }
+        ensures updates { OnOk result (Writes K.eq (K.eq (key_of key)) (hash_of key) self.old.entries self.new.entries (Some value)) }
+        // Keys that are under their own hashes stay so, also where this one is refused.
+        ensures own { (feeds : K → HashWrites) → hash_of key ≡ own_hash feeds (key_of key) → AreOwn feeds self.old → AreOwn feeds self.new }
+        // Refused: only without room. Key and value come back, and entries and index are unchanged.
+        ensures refused { OnErr result (IsRefused self.old self.new) }
+        ensures full { OnErr result (self.old.room ≡ 0) }
+        ensures handed_back { IfErr result (λ refused. refused.0 ≡ (key, value)) }
     {
         prove!(self.index().is_some() || self.len() <= UNINDEXED);
         // memory for the list and for the index is had before the entry is stored
@@ -166,7 +219,7 @@ impl<K: Eq, V> SmallMap<K, V> {
     }
 }
 
-// The same answer, where a refused key comes back without its hash.
+// The answer of an insertion, in which a refused key comes back without its hash.
 fn without_hash<T, K, V>(answer: Result<T, NoRoom<(Hashed<K>, V)>>) -> Result<T, NoRoom<(K, V)>>
     ensures { result ≡ unhashed answer }
 {

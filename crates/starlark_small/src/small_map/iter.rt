@@ -3,7 +3,7 @@ ghost use Rattle.std.specs.Prelude.{◌≡◌, ◌^◌, ◌<◌, length, map};
 ghost use Rattle.std.specs.Map.{values_of};
 ghost use Rattle.std.specs.Map.Iter.{deref, deref_pair};
 ghost use Rattle.starlark_hash.specs.Entries.{Entry, IsSingle, entry_key, entry_value, pair_of};
-ghost use Rattle.starlark_small.specs.Iter.{deref_entry, GivesEach, GivesValues, ShowsEach, ShowsValues};
+ghost use Rattle.starlark_small.specs.Iter.{deref_entry, GivesEach, GivesValues, HasDistinctKeys, ShowsEach, ShowsValues};
 ghost use Rattle.std.specs.Borrow.{sem};
 ghost use Rattle.starlark_small.specs.Lend.{values_follow, KeepsAllButValues};
 
@@ -20,7 +20,11 @@ impl<K: Eq, V> SmallMap<K, V> {
     pub fn keys(&self) -> Keys<'_, K, V>
         ensures keys { result ≡ map entry_key self.now.entries }
         ensures runs { ShowsEach self.now.entries result (deref {X = K}) }
+        // No two have the same hash and equal keys; so no two keys are equal, where each is under its own hash.
+        ensures single { IsSingle K.eq self.now.entries }
+        ensures distinct { HasDistinctKeys K.eq self.now }
     {
+        prove!(self.iter_hashed().len() == self.len());
         self.entries.keys()
     }
 
@@ -30,7 +34,11 @@ impl<K: Eq, V> SmallMap<K, V> {
     pub fn values(&self) -> Values<'_, K, V>
         ensures values { result ≡ map entry_value self.now.entries }
         ensures runs { ShowsValues K.eq self.now.entries result }
+        // No two have the same hash and equal keys; so no two keys are equal, where each is under its own hash.
+        ensures single { IsSingle K.eq self.now.entries }
+        ensures distinct { HasDistinctKeys K.eq self.now }
     {
+        prove!(self.iter_hashed().len() == self.len());
         self.entries.values()
     }
 
@@ -41,7 +49,11 @@ impl<K: Eq, V> SmallMap<K, V> {
         ensures pairs { result ≡ map pair_of self.now.entries }
         ensures values { values_of result ≡ map entry_value self.now.entries }
         ensures runs { ShowsEach self.now.entries result (deref_pair {K = K} {X = V}) }
+        // No two have the same hash and equal keys; so no two keys are equal, where each is under its own hash.
+        ensures single { IsSingle K.eq self.now.entries }
+        ensures distinct { HasDistinctKeys K.eq self.now }
     {
+        prove!(self.iter_hashed().len() == self.len());
         self.entries.iter()
     }
 
@@ -49,9 +61,10 @@ impl<K: Eq, V> SmallMap<K, V> {
     #[inline]
     pub fn iter_hashed(&self) -> IterHashed<'_, K, V>
         ensures entries { result ≡ self.now.entries }
-        ensures single { IsSingle K.eq self.now.entries }
         ensures runs { ShowsEach self.now.entries result (deref_entry {K = K} {V = V}) }
-        ensures few { length self.now.entries < 2 ^ 63 }
+        // No two have the same hash and equal keys; so no two keys are equal, where each is under its own hash.
+        ensures single { IsSingle K.eq self.now.entries }
+        ensures distinct { HasDistinctKeys K.eq self.now }
     {
         self.entries.iter_hashed()
     }

@@ -1,11 +1,14 @@
 //! What takes entries out of a `SmallMap`. None of it asks for memory.
-ghost use Rattle.std.specs.Prelude.{◌≡◌, ◌+◌, ◌-◌, ◌<◌, slice_get, length, Some};
+ghost use Rattle.std.specs.Hash.{HashWrites};
+ghost use Rattle.std.specs.Prelude.{◌≡◌, ◌+◌, ◌-◌, ◌<◌, [], slice_get, length, if◌then◌else◌, is_some, IfSome, Some};
 ghost use Rattle.std.specs.Option.{option_map};
 ghost use Rattle.starlark_hash.specs.Entries.{pair_of};
 ghost use Rattle.starlark_hash.specs.Hasher.{own_hash};
 ghost use Rattle.starlark_hash.specs.HashValue.{hash_of, key_of};
-ghost use Rattle.starlark_small.specs.Lookup.{FindsPair, FindsValue};
-ghost use Rattle.starlark_small.specs.Remove.{Removes, TakesAt, Clears};
+ghost use Rattle.starlark_hash.specs.Lookup.{found, found_key};
+ghost use Rattle.starlark_small.specs.Lookup.{AreOwn, IsEmpty, get, get_key};
+ghost use Rattle.starlark_small.specs.Map.{KeepsMemory};
+ghost use Rattle.starlark_small.specs.Remove.{Removes, RemovesAt, TakesOut};
 
 use super::SmallMap;
 use starlark_hash::{Hashed, Query};
@@ -18,7 +21,9 @@ impl<K: Eq, V> SmallMap<K, V> {
     pub fn shift_remove_hashed<Q: Query<K>>(&mut self, key: Hashed<Q>) -> Option<V>
     where
         K: Drop,
-        ensures taken { FindsValue (Q.stands_for (key_of key)) (hash_of key) self.old result }
+        // The value that was found comes back.
+        ensures value { result ≡ found (Q.stands_for (key_of key)) (hash_of key) self.old.entries }
+        // What the map is now, by look-ups and as a list. No room is lost, and capacity and index stay.
         ensures removes { Removes K.eq (Q.stands_for (key_of key)) (hash_of key) self.old self.new }
     {
         let (_, value) = self.shift_remove_hashed_entry(key)?;
@@ -29,7 +34,10 @@ impl<K: Eq, V> SmallMap<K, V> {
     /// move up. Capacity and index stay.
     #[tactic(auto, using(crate::proofs::CallerLookup::look_ups, crate::proofs::CallerRemove::removed))]
     pub fn shift_remove_hashed_entry<Q: Query<K>>(&mut self, key: Hashed<Q>) -> Option<(K, V)>
-        ensures taken { FindsPair (Q.stands_for (key_of key)) (hash_of key) self.old result }
+        // The key and the value that were found come back.
+        ensures key { option_map (λ p. p.0) result ≡ found_key (Q.stands_for (key_of key)) (hash_of key) self.old.entries }
+        ensures value { option_map (λ p. p.1) result ≡ found (Q.stands_for (key_of key)) (hash_of key) self.old.entries }
+        // What the map is now, by look-ups and as a list. No room is lost, and capacity and index stay.
         ensures removes { Removes K.eq (Q.stands_for (key_of key)) (hash_of key) self.old self.new }
     {
         let index = self.get_index_of_hashed(key)?;
@@ -38,12 +46,14 @@ impl<K: Eq, V> SmallMap<K, V> {
     }
 
     /// Removes the entry under the query's own hash whose key the query stands for, drops its key and answers its
-    /// value. Those after it move up. Capacity and index stay.
+    /// value. Those after it move up; without such an entry nothing changes. Capacity and index stay.
     #[inline]
     pub fn shift_remove<Q: Query<K> + Hash>(&mut self, key: Q) -> Option<V>
     where
         K: Drop,
-        ensures taken { FindsValue (Q.stands_for key) (own_hash Q.hash_input key) self.old result }
+        // The value that was found comes back.
+        ensures value { result ≡ get Q.stands_for Q.hash_input self.old key }
+        // What the map is now, by look-ups and as a list. No room is lost, and capacity and index stay.
         ensures removes { Removes K.eq (Q.stands_for key) (own_hash Q.hash_input key) self.old self.new }
     {
         self.shift_remove_hashed(Hashed::new(key))
@@ -53,7 +63,10 @@ impl<K: Eq, V> SmallMap<K, V> {
     /// Those after it move up. Capacity and index stay.
     #[inline]
     pub fn shift_remove_entry<Q: Query<K> + Hash>(&mut self, key: Q) -> Option<(K, V)>
-        ensures taken { FindsPair (Q.stands_for key) (own_hash Q.hash_input key) self.old result }
+        // The key and the value that were found come back.
+        ensures key { option_map (λ p. p.0) result ≡ get_key Q.stands_for Q.hash_input self.old key }
+        ensures value { option_map (λ p. p.1) result ≡ get Q.stands_for Q.hash_input self.old key }
+        // What the map is now, by look-ups and as a list. No room is lost, and capacity and index stay.
         ensures removes { Removes K.eq (Q.stands_for key) (own_hash Q.hash_input key) self.old self.new }
     {
         self.shift_remove_hashed_entry(Hashed::new(key))
@@ -61,7 +74,12 @@ impl<K: Eq, V> SmallMap<K, V> {
 
     /// Removes the entry at an index, and answers its key and value. Those after it move up. Capacity and index stay.
     pub fn shift_remove_index(&mut self, index: usize) -> Option<(K, V)>
-        ensures { TakesAt K.eq index self.old self.new result }
+        // What was at the index comes back, if there was something: the key has it no more, and there is one entry less.
+        ensures taken { result ≡ option_map pair_of (slice_get self.old.entries index) }
+        ensures takes { IfSome result (λ p. TakesOut K.eq self.old self.new p.0 p.1) }
+        ensures count { length self.old.entries ≡ length self.new.entries + (if is_some result then 1 else 0) }
+        // What the map is now, as a list. No room is lost, and capacity and index stay.
+        ensures removes { RemovesAt self.old self.new index }
     {
         let (key, value) = self.shift_remove_index_hashed(index)?;
         Some((key.into_key(), value))
@@ -70,8 +88,12 @@ impl<K: Eq, V> SmallMap<K, V> {
     /// Removes the entry at an index, and answers it. Those after it move up. Capacity and index stay.
     #[tactic(auto, using(std::proofs::lemmas::Grind::common_steps, std::proofs::lemmas::Option::slice_get_past))]
     pub fn shift_remove_index_hashed(&mut self, index: usize) -> Option<(Hashed<K>, V)>
+        // What was at the index comes back, if there was something: the key has it no more, and there is one entry less.
         ensures taken { result ≡ slice_get self.old.entries index }
-        ensures takes { TakesAt K.eq index self.old self.new (option_map pair_of result) }
+        ensures takes { IfSome (option_map pair_of result) (λ p. TakesOut K.eq self.old self.new p.0 p.1) }
+        ensures count { length self.old.entries ≡ length self.new.entries + (if is_some result then 1 else 0) }
+        // What the map is now, as a list. No room is lost, and capacity and index stay.
+        ensures removes { RemovesAt self.old self.new index }
     {
         if index < self.len() {
             Some(self.take_at(index))
@@ -82,7 +104,12 @@ impl<K: Eq, V> SmallMap<K, V> {
 
     /// Removes the last entry, and answers its key and value. Capacity and index stay.
     pub fn pop(&mut self) -> Option<(K, V)>
-        ensures { TakesAt K.eq (length self.old.entries - 1) self.old self.new result }
+        // What was at the index comes back, if there was something: the key has it no more, and there is one entry less.
+        ensures taken { result ≡ option_map pair_of (slice_get self.old.entries (length self.old.entries - 1)) }
+        ensures takes { IfSome result (λ p. TakesOut K.eq self.old self.new p.0 p.1) }
+        ensures count { length self.old.entries ≡ length self.new.entries + (if is_some result then 1 else 0) }
+        // What the map is now, as a list. No room is lost, and capacity and index stay.
+        ensures removes { RemovesAt self.old self.new (length self.old.entries - 1) }
     {
         let (key, value) = self.take_last()?;
         Some((key.into_key(), value))
@@ -94,7 +121,12 @@ impl<K: Eq, V> SmallMap<K, V> {
     where
         K: Drop,
         V: Drop,
-        ensures { Clears self.old self.new }
+        // No entry is left, and none is found.
+        ensures entries { self.new.entries ≡ [] }
+        ensures lacks { IsEmpty self.new }
+        ensures own { (feeds : K → HashWrites) → AreOwn feeds self.new }
+        // No room is lost; capacity and index stay.
+        ensures kept { KeepsMemory self.old self.new }
     {
         prove!(self.entries.len() <= self.entries.capacity());
         self.index.clear();
@@ -105,7 +137,9 @@ impl<K: Eq, V> SmallMap<K, V> {
     fn take_at(&mut self, index: usize) -> (Hashed<K>, V)
         requires { index < length self.old.entries }
         ensures taken { slice_get self.old.entries index ≡ Some result }
-        ensures takes { TakesAt K.eq index self.old self.new (Some (pair_of result)) }
+        ensures takes { TakesOut K.eq self.old self.new (key_of result.0) result.1 }
+        ensures count { length self.old.entries ≡ length self.new.entries + 1 }
+        ensures removes { RemovesAt self.old self.new index }
     {
         prove!(self.entries.len() <= self.entries.capacity());
         self.index.forget(index);
@@ -116,7 +150,9 @@ impl<K: Eq, V> SmallMap<K, V> {
     #[inline]
     fn take_last(&mut self) -> Option<(Hashed<K>, V)>
         ensures taken { result ≡ slice_get self.old.entries (length self.old.entries - 1) }
-        ensures takes { TakesAt K.eq (length self.old.entries - 1) self.old self.new (option_map pair_of result) }
+        ensures takes { IfSome (option_map pair_of result) (λ p. TakesOut K.eq self.old self.new p.0 p.1) }
+        ensures count { length self.old.entries ≡ length self.new.entries + (if is_some result then 1 else 0) }
+        ensures removes { RemovesAt self.old self.new (length self.old.entries - 1) }
     {
         prove!(self.entries.len() <= self.entries.capacity());
         if self.entries.is_empty() {

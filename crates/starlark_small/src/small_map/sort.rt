@@ -17,7 +17,7 @@ impl<K: Eq, V> SmallMap<K, V> {
     pub fn sort_keys(&mut self) -> Result<(), AllocError>
     where
         K: Ord,
-        ensures { SortsByKey K.eq K.cmp result self.old self.new }
+        ensures { SortsByKey K.eq K.cmp self.old self.new result }
     {
         if self.entries.is_sorted_by_key() {
             return Ok(());
@@ -25,7 +25,7 @@ impl<K: Eq, V> SmallMap<K, V> {
         sort_indexed(&mut self.entries, &mut self.index)
     }
 
-    /// Turns the order of the entries round. Capacity and index stay.
+    /// Reverses the order of the entries. Capacity and index stay.
     pub fn reverse(&mut self)
         ensures { Turns K.eq self.old self.new }
     {
@@ -49,8 +49,8 @@ fn sort_indexed<K: Ord, V>(entries: &mut VecMap<K, V>, index: &mut Index) -> Res
     Ok(())
 }
 
-// The same in one pass over the index, which reads no hash: if there is one and it is dense, and where each entry goes is
-// told. False says that nothing has changed.
+// Sorts in one pass over the index, without a hash, where there is an index that is dense and the list reports its moves.
+// Returns `false`, and changes nothing, where one of these is missing.
 fn sort_and_rename<K: Ord, V>(entries: &mut VecMap<K, V>, index: &mut Index) -> bool
     requires { IsIndexed entries.old.entries index.old }
     ensures sorted { result ≡ true → entries.new ≡ with_entries entries.old (sorted_by_key K.cmp entries.old.entries) }
@@ -67,7 +67,7 @@ fn sort_and_rename<K: Ord, V>(entries: &mut VecMap<K, V>, index: &mut Index) -> 
     true
 }
 
-// Turns a list round, and its index with it.
+// Reverses a list, and its index with it.
 fn reverse_indexed<K, V>(entries: &mut VecMap<K, V>, index: &mut Index)
     requires { IsIndexed entries.old.entries index.old }
     ensures entries { entries.new ≡ with_entries entries.old (reverse entries.old.entries) }

@@ -14,6 +14,7 @@ const NEAR: usize = 1 << 18;
 pub(super) fn take_index(table: &mut Indices, cells: &mut Cells, index: usize)
     requires within { index < length cells.old.0.items }
     requires sited { IsSited cells.old.0.items table.old.slots }
+    requires stands { IsSome (member_at table.old (slice_index cells.old.0.items index)) }
     requires few { length table.old.slots ≤ 2 ^ 32 }
     ensures { TakesIndex index table.old table.new cells.old.0 cells.new.0 }
 {
@@ -117,9 +118,8 @@ pub(super) fn name_slots(table: &Indices, cells: &mut Vec<u32>)
     let mut from = 0;
     'slots: while let Some(slot) = table.next_full(from) {
         prove!(slot < table.slots());
-        if let Some(index) = table.get(slot) {
-            cells[*index as usize] = slot as u32;
-        }
+        let index = *table.get_unchecked(slot);
+        cells[index as usize] = slot as u32;
         from = slot + 1;
     }
 }

@@ -8,7 +8,7 @@ pub invariant_of-result : goal.invariant_of-result
 invariant_of-result g c = record {
   single = IsSingle-clones g.K.PartialEq.eq g.met.K.Eq.laws g.K.Clone.is_clone g.V.Clone.is_clone c.requires c.self.inside.entries.entries c.in_ok-entries.entries.entries
       c.in_ok-entries.ensures.entries c.self.invariant.single;
-  indexed = c.in_ok-index.ensures.indexed;
+  indexed = c.in_ok-index.ensures.made.indexed;
 }
 
 pub returns : goal.returns
@@ -23,7 +23,7 @@ returns g c =
         found = found-clones g.K.PartialEq.eq g.met.K.Eq.laws g.K.Clone.is_clone g.V.Clone.is_clone c.requires es fs clones;
         own = λ feeds alike. own-clones feeds g.K.Clone.is_clone g.V.Clone.is_clone (λ x y is. alike x y (c.requires x y is)) es fs clones;
         capacity = search rules;
-        indexed = c.in_ok-index.ensures.long ∙ ap (nat_lt unindexed) (sym (length_all_zip _ es fs clones));
+        indexed = c.in_ok-index.ensures.made.long ∙ ap (nat_lt unindexed) (sym (length_all_zip _ es fs clones));
       };
       succeeds = λ _. refl;
     })

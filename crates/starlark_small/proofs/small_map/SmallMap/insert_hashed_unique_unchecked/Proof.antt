@@ -1,9 +1,12 @@
 -- `insert_hashed_unique_unchecked` meets its contract, at any key and value types: the map is lent to the call that puts the entry at the end and comes back, and is then lent for good to the call that shows it. Assumes `Logic`.
-use Rattle.starlark_columns.proofs.Walking.{◌≡◌, refl, sym, inl, inr, ℕ, ◌<◌, ◌^◌, suc-ne-zero, [], ◌∷◌, length, lit<, Args, a_type, dcons, dnil, named, w64, inst_fn, Val, vint, vcons, vnil, of_list, id⊢, ex_e, snd∗, Lft, GName, Share, ftrue, flft, fres, Env, sem, live, vrt, in_variant, by_variants, ◌⊑◌, ⊑_trans, meet_⊑_right, fact, tables, ‵, raw, ◌⊛◌, some, given, later, at_ret, ◌$◌, ◌∵◌, !, qed, by, move, drop, use1, use2, use3, split, split3, join, pick, learn, fsplit, fjoin, await, rewrite, group, whole, agg, stop, fld, addr, lit, of_opd, and_then, no_more, first, exec, returns, enter, alloc_all, pass_all, free_all, look_at, get, get_in, get_tag, through, sets, sets_last, lands_as, env, RattleType, usize, follows, param, bounded, layout, param_laws, uint_Makes, uint_Tells, Bor, MutBor, MutRef, ShrRef, mut_vals, nothing, owned, heard, tells, Tuple, tuple_laws, calls_at, Lasts, ensured, lasts, triple_of, Contract, Triple, framed, Good, Ok-of, Err-of, and_tt, Result, Ok, Err, None, IfOk, OnErr, OnOk, slice_get, Some, option_map, after}
+use Rattle.starlark_columns.proofs.Walking.{◌≡◌, refl, sym, inl, inr, ℕ, ◌<◌, ◌^◌, suc-ne-zero, [], ◌∷◌, length, lit<, Args, a_type, dcons, dnil, named, w64, inst_fn, Val, vint, vcons, vnil, of_list, id⊢, ex_e, snd∗, Lft, GName, Share, ftrue, flft, fres, Env, sem, live, vrt, in_variant, by_variants, ◌⊑◌, ⊑_trans, meet_⊑_right, fact, tables, ‵, raw, ◌⊛◌, some, given, later, at_ret, ◌$◌, ◌∵◌, !, qed, by, move, drop, use1, use2, use3, split, split3, join, pick, learn, fsplit, fjoin, await, rewrite, group, whole, agg, stop, fld, addr, lit, of_opd, and_then, no_more, first, exec, returns, enter, alloc_all, pass_all, free_all, look_at, get, get_in, get_tag, through, sets, sets_last, lands_as, env, RattleType, usize, follows, param, bounded, layout, param_laws, uint_Makes, uint_Tells, Bor, MutBor, MutRef, ShrRef, mut_vals, nothing, owned, heard, tells, Tuple, tuple_laws, calls_at, Lasts, ensured, lasts, triple_of, Contract, Triple, framed, Good, Ok-of, Err-of, and_tt, Result, Ok, Err, None, IfErr, IfOk, OnErr, OnOk, slice_get, Some, option_map, after}
 use Rattle.starlark_hash.specs.Entries.{pair_of}
 use Rattle.starlark_hash.specs.HashValue.{hash_of, key_of}
-use Rattle.starlark_hash.specs.Lookup.{found}
-use Rattle.starlark_small.specs.Insert.{Inserts, IsInserted, IsRefused, PutsLast}
+use Rattle.std.specs.Hash.{HashWrites}
+use Rattle.starlark_hash.specs.Hasher.{own_hash}
+use Rattle.starlark_hash.specs.Lookup.{found, Writes}
+use Rattle.starlark_small.specs.Lookup.{AreOwn}
+use Rattle.starlark_small.specs.Insert.{IsInserted, IsRefused}
 use Rattle.starlark_small.specs.Map.{Map}
 use Rattle.starlark_small.specs.contracts.small_map.SmallMap.push as p
 use Rattle.starlark_small.specs.contracts.small_map.SmallMap.entry_mut as e
@@ -12,7 +15,7 @@ use Rattle.starlark_columns.proofs.Steps.{Kept, within, lent_within, back_again}
 use Rattle.starlark_table.proofs.LentInResult.{given_up, so_rests, so_follows, in_ok_told, in_err, entry_val, entry_told, which}
 use Rattle.starlark_small.proofs.Inserted.{with_value_at, within_inserted, inserted_written, inserted_shown}
 use Rattle.starlark_small.proofs.PutLent as L
-use Rattle.starlark_small.proofs.PutLent.{Hashed, NoRoom, Post, ends, lends_inserted, lone_value, match_of, meets}
+use Rattle.starlark_small.proofs.PutLent.{Hashed, NoRoom, Post, ends, lends_inserted, lone_value, meets}
 use Rattle.starlark_small.proofs.small_map.SmallMap.push as push
 use Rattle.starlark_small.proofs.small_map.SmallMap.entry_mut as entry
 use Rattle.starlark_small.proofs.small_map.SmallMap.insert_hashed_unique_unchecked as routine
@@ -45,12 +48,13 @@ insert_hashed_unique_unchecked_spec 𝓤 𝓛 𝓜 𝓡 wired K V LK LV E dE P d
     let z : Puts.Ghost = (((ακ, (κK, (κV, tt))), (qq, (qK, (qV, tt))), inner, (loan, (key, (value, tt))), (mut_vals loan, (k ∷ [], (v ∷ [], tt)))), tt) in
     nothing ! $ move ! (7 ∷ 0 ∷ []) $ fjoin ! $ move ! (6 ∷ 0 ∷ []) $ fjoin ! $ move ! (2 ∷ 0 ∷ []) $ fjoin ! $
     nothing ! $ move ! (5 ∷ 0 ∷ []) $ join ! $ move ! (4 ∷ 0 ∷ []) $ join ! $ move ! (2 ∷ 0 ∷ []) $ join ! $ join ! $
-    tells ! (match_of P.eq m.entries key ≡ None) absent $ tells ! (κV ⊑ V.lives) lV $ tells ! (κK ⊑ K.lives) lK $ group ! 3 $ move ! (1 ∷ 0 ∷ []) $ join ! $ use1 𝓛 (raw (Puts.pre z)) (id⊢ 𝓤 _) $
+    tells ! (found (P.eq (key_of key)) (hash_of key) m.entries ≡ None) absent $ tells ! (κV ⊑ V.lives) lV $ tells ! (κK ⊑ K.lives) lK $ group ! 3 $ move ! (1 ∷ 0 ∷ []) $ join ! $ use1 𝓛 (raw (Puts.pre z)) (id⊢ 𝓤 _) $
     calls_at ! fm Puts puts z (and_then ! (get ! refl) (and_then ! (get ! refl) (and_then ! (get ! refl) (no_more !)))) (λ u.
     use1 𝓛 (later (some (λ (g : Got). ((‵ (flft ακ qq) ⊛ ‵ (flft κK qK) ⊛ ‵ (flft κV qV) ⊛ ‵ ftrue) ⊛ ‵ ((L.RS.the_row usize Back).own_val g (u ∷ [])))
-    ⊛ some (λ (ws : Lasts (p.ended K V E dE P dP) z.0.0 z.0.3). ‵ (lasts (p.ended K V E dE P dP) z.0.0 z.0.3 ws) ⊛ raw (fact 𝓤 (IfOk g (λ i. i ≡ length m.entries))) ⊛ raw (fact 𝓤 (PutsLast key value brought m ws.0 g))
-    ⊛ raw (fact 𝓤 (Inserts P.eq key value brought (λ _. length m.entries) m ws.0 g)) ⊛ raw (fact 𝓤 (found (P.eq (key_of key)) (hash_of key) m.entries ≡ None)))))) (id⊢ 𝓤 _) $ await ! tt $
-    pick ! (λ g. split ! $ move ! (1 ∷ []) $ pick ! (λ ws. split ! $ fsplit ! $ fsplit ! $ move ! (3 ∷ []) $ split ! $ heard ! _ (λ at_end. split ! $ heard ! _ (λ put. drop ! $
+    ⊛ some (λ (ws : Lasts (p.ended K V E dE P dP) z.0.0 z.0.3). ‵ (lasts (p.ended K V E dE P dP) z.0.0 z.0.3 ws) ⊛ raw (fact 𝓤 (IfOk g (λ i. i ≡ length m.entries))) ⊛ raw (fact 𝓤 (OnOk g (IsInserted m ws.0 key value)))
+    ⊛ raw (fact 𝓤 (OnOk g (Writes P.eq (P.eq (key_of key)) (hash_of key) m.entries ws.0.entries (Some value)))) ⊛ raw (fact 𝓤 ((feeds : K.Denot → HashWrites) → hash_of key ≡ own_hash feeds (key_of key) → AreOwn feeds m → AreOwn feeds ws.0))
+    ⊛ raw (fact 𝓤 (OnErr g (IsRefused m ws.0))) ⊛ raw (fact 𝓤 (OnErr g (m.room ≡ 0))) ⊛ raw (fact 𝓤 (IfErr g (λ refused. refused.0 ≡ brought))))))) (id⊢ 𝓤 _) $ await ! tt $
+    pick ! (λ g. split ! $ move ! (1 ∷ []) $ pick ! (λ ws. split ! $ fsplit ! $ fsplit ! $ move ! (3 ∷ []) $ split ! $ heard ! _ (λ at_end. split ! $ heard ! _ (λ inserted. split ! $ drop ! $ split ! $ drop ! $ split ! $ heard ! _ (λ refused. split ! $ heard ! _ (λ full. heard ! _ (λ back.
     let mm : Map K.Denot V.Denot = ws.0 in let self : MutBor (Map K.Denot V.Denot) = record r { now = mm } in
     move ! (3 ∷ []) $ split ! $ split3 ! $ move ! (2 ∷ []) $ split ! $
     -- the loan is over, and self is back
@@ -60,7 +64,7 @@ insert_hashed_unique_unchecked_spec 𝓤 𝓛 𝓜 𝓡 wired K V LK LV E dE P d
     elim (which g) [
       | inl w ↦
           let i = w.0 in
-          let last : i ≡ length m.entries = rw w.1 at at_end in let new : IsInserted m key value mm = rw w.1 at put.inserted in let within : i < length mm.entries = within_inserted m mm key value i last new in
+          let last : i ≡ length m.entries = rw w.1 at at_end in let new : IsInserted m mm key value = rw w.1 at inserted in let within : i < length mm.entries = within_inserted m mm key value i last new in
           rewrite ! 0 (λ (h : Got). ‵ ((L.RS.the_row usize Back).own_val h (u ∷ []))) w.1 refl $
           use1 𝓛 (given ((u ≡ live 0 (vcons (vint w64 i) vnil)) × Good (layout usize) (vint w64 i)) (‵ (usize.own_val i (vint w64 i ∷ [])))) (in_ok_told 𝓛 usize Back u i (vint w64 i) (λ vs is. (uint_Tells w64 i vs is, (tt, record { fits = is.1 })))) $ learn ! (λ at_u. drop ! $
           let fi : i < 2 ^ 64 = at_u.1.1.fits in lands_as ! at_u.0 refl (tt, (record { fits = lit< tt }, (record { fits = fi }, tt))) $
@@ -82,7 +86,7 @@ insert_hashed_unique_unchecked_spec 𝓤 𝓛 𝓜 𝓡 wired K V LK LV E dE P d
                 exec ! 𝓣.C 𝓣.Λ En (after 5 fn.body) (at_ret En Ends) $ sets ! (of_opd ! (get ! refl)) refl (tt, (record { fits = lit< tt }, ((tt, (tt, tt)), tt))) $ returns ! (look_at ! 0 refl) $ free_all ! refl $
                 -- [the result; the tokens; what self follows]
                 use1 𝓛 (‵ ((L.RS.the_row (Pair κ) Back).own_val (Ok x) (live 0 (of_list (ev ∷ [])) ∷ []))) (Ok-of 𝓛 (Pair κ) Back x ev) $
-                move ! (2 ∷ []) $ use1 𝓛 (‵ (lends_inserted K' V' P r key out)) (so_follows 𝓛 R V' γ (λ y n. OnOk out (IsInserted m key y n)) (λ n. OnErr out (IsRefused m n)) m tt x.1.ghost_name (with_value_at mm i) (inserted_written m mm key value i last new)) $
+                move ! (2 ∷ []) $ use1 𝓛 (‵ (lends_inserted K' V' P r key out)) (so_follows 𝓛 R V' γ (λ y n. OnOk out (IsInserted m n key y)) (λ n. OnErr out (IsRefused m n)) m tt x.1.ghost_name (with_value_at mm i) (inserted_written m mm key value i last new)) $
                 move ! (1 ∷ 2 ∷ 0 ∷ []) $ by ! (ends K V Key (λ key. key) P 𝓛 κs qs bounds r key value k v (live 0 (of_list (ev ∷ []))) out (inserted_shown m mm key value i last new x.0.now x.1.now read) tt tt)))))),
             ((λ e. absurd (suc-ne-zero 0 (sym e))), tt),
           ))
@@ -99,12 +103,12 @@ insert_hashed_unique_unchecked_spec 𝓤 𝓛 𝓜 𝓡 wired K V LK LV E dE P d
               (λ _. sets ! (of_opd ! (get_in ! (vrt ! refl (fld ! refl (stop !))) (in_variant ! 1 0 refl refl (whole !)))) refl at_u.1 $ sets ! (of_opd ! (get ! refl)) refl at_u.1 $
                   sets_last ! (agg ! (and_then ! (lit ! tt) (and_then ! (get ! refl) (no_more !)))) refl (and_tt _ at_u.1.0, (record { fits = lit< tt }, (at_u.1.1, tt))) $
                   exec ! 𝓣.C 𝓣.Λ En (after 5 fn.body) (at_ret En Ends) $ sets ! (of_opd ! (get ! refl)) refl (and_tt _ at_u.1.0, (record { fits = lit< tt }, (at_u.1.1, tt))) $ returns ! (look_at ! 0 refl) $ free_all ! refl $
-                  use1 𝓛 (‵ (lends_inserted K' V' P r key out)) (so_rests 𝓛 R V' γ (λ y n. OnOk out (IsInserted m key y n)) (λ n. OnErr out (IsRefused m n)) mm (rw w.1 at put.refused) (λ _. tt)) $
+                  use1 𝓛 (‵ (lends_inserted K' V' P r key out)) (so_rests 𝓛 R V' γ (λ y n. OnOk out (IsInserted m n key y)) (λ n. OnErr out (IsRefused m n)) mm (rw w.1 at refused) (λ _. tt)) $
                   move ! (1 ∷ []) $ use1 𝓛 (‵ ((L.RS.the_row (Pair κ) Back).own_val (Err w.0) (live 1 (of_list (ev ∷ [])) ∷ []))) (Err-of 𝓛 (Pair κ) Back w.0 ev) $
                   -- [the result; what self follows; the tokens of κ, κV, κK]
                   nothing ! $ move ! (4 ∷ 0 ∷ []) $ join ! $ move ! (4 ∷ 0 ∷ []) $ join ! $ move ! (3 ∷ 0 ∷ []) $ join ! $ move ! (1 ∷ 0 ∷ 2 ∷ []) $
-                  by ! (ends K V Key (λ key. key) P 𝓛 κs qs bounds r key value k v (live 1 (of_list (ev ∷ []))) out tt (rw w.1 at put.full) (rw w.1 at put.handed_back))),
+                  by ! (ends K V Key (λ key. key) P 𝓛 κs qs bounds r key value k v (live 1 (of_list (ev ∷ []))) out tt (rw w.1 at full) (rw w.1 at back))),
               tt,
             ),
           )))
-    ])))))))))
+    ]))))))))))))

@@ -2,6 +2,7 @@ use Rattle.starlark_hash.proofs.Common.{◌≡◌, None, rules, sym, subst, leng
 use Rattle.std.proofs.iter.Next as it
 use Rattle.starlark_hash.specs.Entries.{match_of}
 use Rattle.starlark_small.specs.Collect.{own_entry}
+use Rattle.starlark_small.proofs.CallerLookup.{position_of-found}
 use Rattle.starlark_small.proofs.Inserting.{yields_more, filled_none, filled_more, filled_still, long_is_indexed}
 use Rattle.starlark_small.proofs.small_map.SmallMap.insert_items.Goals as goal
 
@@ -15,21 +16,21 @@ loop-pair-preserved-in-Ok g c =
     let inv = c.loop-pair.invariant in
     it.again inv c.in-Some.pair c.in-Some.is (c.next.ensures.steps, c.next.ensures.goes)
     (filled_more c.insert.new.self inv.holds inv.counted (it.on c.in-Some.pair c.in-Some.is c.next.ensures.goes inv.ending).2
-    c.in-Some.pair c.insert.ensures.inserts.memory c.in-Ok.ensures.inserts.entries)
+    c.in-Some.pair c.insert.ensures.memory c.in-Ok.ensures.inserts.entries)
 
 pub loop-pair-preserved : goal.loop-pair-preserved
 loop-pair-preserved g c =
     let inv = c.loop-pair.invariant in
     it.again inv c.in-Some.pair c.in-Some.is (c.next.ensures.steps, c.next.ensures.goes)
     (filled_more c.insert.new.self inv.holds inv.counted (it.on c.in-Some.pair c.in-Some.is c.next.ensures.goes inv.ending).2
-    c.in-Some.pair c.insert.ensures.inserts.memory c.in-Ok.ensures.inserts.entries)
+    c.in-Some.pair c.insert.ensures.memory c.in-Ok.ensures.inserts.entries)
 
 pub returns-in-Err : goal.returns-in-Err
 returns-in-Err g c =
     let inv = c.loop-pair.invariant in
-    let same = c.in-Err.ensures.inserts.unchanged.0 in
+    let same = c.in-Err.ensures.refused.entries in
     let still = filled_still c.insert.new.self inv.holds inv.counted (it.on c.in-Some.pair c.in-Some.is c.next.ensures.goes inv.ending).2
-    c.in-Some.pair c.insert.ensures.inserts.memory same c.in-Err.ensures.inserts.full in
+    c.in-Some.pair c.insert.ensures.memory same c.in-Err.ensures.refused.full in
     record {
       entries = record {
         items = inv.seen;
@@ -38,7 +39,7 @@ returns-in-Err g c =
           next = c.in-Some.pair;
           rest = c.next.new.self;
           gave = yields_more g.I.Iterator.next_gives c.args.items c.loop-pair.items c.next.new.self inv.seen c.in-Some.pair inv.gave (it.said g.I.Iterator.next_gives c.in-Some.is c.next.ensures.steps);
-          absent = subst (λ l. match_of g.K.PartialEq.eq l (own_entry g.K.Hash.hash_input c.in-Some.pair).0 ≡ None) (sym same) c.in-Err.ensures.inserts.absent;
+          absent = subst (λ l. match_of g.K.PartialEq.eq l (own_entry g.K.Hash.hash_input c.in-Some.pair).0 ≡ None) (sym same) (position_of-found _ _ _ c.in-Err.ensures.refused.lacking);
         };
       };
       memory = search (rules, still);

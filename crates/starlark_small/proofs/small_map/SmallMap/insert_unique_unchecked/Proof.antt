@@ -10,7 +10,7 @@ use Rattle.starlark_small.specs.contracts.small_map.SmallMap.insert_unique_unche
 use Rattle.starlark_columns.proofs.Steps.{mut_laws, shr_laws, good_value}
 use Rattle.std.specs.declared.cmp.PartialEq as PartialEq
 use Rattle.starlark_small.proofs.PutLent as L
-use Rattle.starlark_small.proofs.PutLent.{Hashed, NoRoom, ends, key_of, lends_inserted, match_of, meets}
+use Rattle.starlark_small.proofs.PutLent.{Hashed, NoRoom, ends, found, hash_of, key_of, lends_inserted, meets}
 use Rattle.starlark_small.proofs.small_map.SmallMap.insert_hashed_unique_unchecked as insert
 use Rattle.starlark_small.proofs.small_map.insert.without_hash as without
 use Rattle.starlark_small.proofs.small_map.SmallMap.insert_unique_unchecked as routine
@@ -64,7 +64,7 @@ insert_unique_unchecked_spec 𝓤 𝓛 𝓜 𝓡 wired K V LK LV E dE P dP G dG 
     let z : Inserts.Ghost = ((κs, qs, bounds, (r, (under, (value, tt))), (mut_vals r, (h ∷ [], (v ∷ [], tt)))), tt) in
     nothing ! $ move ! (7 ∷ 0 ∷ []) $ fjoin ! $ move ! (3 ∷ 0 ∷ []) $ fjoin ! $ move ! (5 ∷ 0 ∷ []) $ fjoin ! $
     move ! (4 ∷ 2 ∷ []) $ join ! $ move ! (2 ∷ 0 ∷ []) $ join ! $ move ! (2 ∷ 0 ∷ []) $ join ! $ join ! $
-    tells ! (match_of P.eq m.entries under ≡ None) absent $ tells ! (κV ⊑ V.lives) lV $ tells ! (κK ⊑ K.lives) lK $ group ! 3 $ move ! (1 ∷ 0 ∷ []) $ join ! $ use1 𝓛 (raw (Inserts.pre z)) (id⊢ 𝓤 _) $
+    tells ! (found (P.eq key) (hash_of under) m.entries ≡ None) absent $ tells ! (κV ⊑ V.lives) lV $ tells ! (κK ⊑ K.lives) lK $ group ! 3 $ move ! (1 ∷ 0 ∷ []) $ join ! $ use1 𝓛 (raw (Inserts.pre z)) (id⊢ 𝓤 _) $
     calls_at ! fm Inserts inserts z (and_then ! (get ! refl) (and_then ! (get ! refl) (and_then ! (get ! refl) (no_more !)))) (λ u.
     use1 𝓛 (later (some (λ (g : Result (Bor K.Denot × MutBor V.Denot) (NoRoom (Hashed K.Denot × V.Denot))). ((‵ (flft κ q) ⊛ ‵ (flft κK qK) ⊛ ‵ (flft κV qV) ⊛ ‵ ftrue) ⊛ ‵ ((L.RS.the_row (Pair κ) HashedBack).own_val g (u ∷ [])))
     ⊛ raw (ensured 𝓛 (p.ended K V E dE P dP) (p.clauses K V E dE P dP 𝓛 𝓜.mem 𝓡.returns) z.0.0 z.0.3 tt g)))) (id⊢ 𝓤 _) $ await ! tt $ pick ! (λ g. split ! $ move ! (1 ∷ []) $

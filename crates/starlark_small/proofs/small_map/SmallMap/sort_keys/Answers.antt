@@ -1,5 +1,4 @@
 use Rattle.starlark_hash.proofs.Common.{on_ok_weaker, ◌≡◌, List, Result, Ok, Err, arith, refl, rules, subst, sym, map, IsPermutation, common_steps, IsPermutation-refl, length_permutation, IsSorted, OnOk, OnErr}
-use Rattle.std.proofs.lemmas.Result.{on_err_weaker}
 use Rattle.starlark_hash.specs.Entries.{Entry, entry_key}
 use Rattle.starlark_hash.specs.Sort.{key_lt, sorted_by_key}
 use Rattle.starlark_hash.proofs.EntryLemmas.{IsSingle-permutation}
@@ -42,10 +41,10 @@ returns g c =
     (record {
       entries = first_of (search rules, grind (arith, common_steps));
       unchanged = first_of (search rules, grind (arith, common_steps));
+      count = length_permutation es new.entries is.0;
       sorted = on_ok_weaker c.sort_indexed.result sorted c.sort_indexed.ensures.sorted;
       same = same-permuted g.K.PartialEq.eq g.met.K.Eq.laws _ _ c.self.invariant.single is.0;
       own = λ feeds. own-permuted feeds _ _ is.0;
       at_once = λ ascends. absurd (not_up ascends);
-      needed = on_err_weaker c.sort_indexed.result (λ _. not_up) c.sort_indexed.ensures.unchanged;
       kept = KeepsMemory-turned c.self.inside.entries new c.self.inside.index c.sort_indexed.new.index (length_permutation es new.entries is.0) is.1 c.sort_indexed.ensures.follows.room c.sort_indexed.ensures.follows.kept;
     })

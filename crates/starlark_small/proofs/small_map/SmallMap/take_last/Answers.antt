@@ -1,22 +1,22 @@
-use Rattle.starlark_hash.proofs.Common.{length, ◌≡◌, ◌∙◌, ◌-◌, ◌<◌, ap, arith, rules, subst, sym, remove, common_steps, option_map}
+use Rattle.starlark_hash.proofs.Common.{length, ◌≡◌, ◌∙◌, ◌-◌, ◌<◌, arith, rules, subst, sym, remove, common_steps}
 use Rattle.starlark_hash.proofs.EntryLemmas.{IsSingle-remove}
 use Rattle.starlark_small.specs.Index.{IsIndexed, IsSound}
-use Rattle.starlark_small.proofs.Indexed.{IsIndexed-forgotten, is_some-map, last-forgotten}
-use Rattle.starlark_hash.specs.Entries.{pair_of}
+use Rattle.starlark_small.proofs.Indexed.{IsIndexed-forgotten, last-forgotten}
 use Rattle.starlark_small.proofs.CallerOwn.{own-removed}
 use Rattle.starlark_small.proofs.CallerRemove.{last-taken, takes-out_last}
 use Rattle.starlark_small.proofs.small_map.SmallMap.take_last.Goals as goal
 
 pub returns-clause-takes : goal.returns-clause-takes
-returns-clause-takes g c = record {
-  taken = rw (← c.self.view_is) (ap (option_map pair_of) (last-taken c.self.inside.entries.entries c.pop.result c.pop.new.self.entries c.pop.ensures.taken));
-  takes = rw (← c.self.view_is) (takes-out_last g.K.PartialEq.eq g.met.K.Eq.laws _ _ c.pop.result c.self.invariant.single c.pop.ensures.taken);
-  count = rw (is_some-map pair_of c.pop.result) (first_of (search rules, grind (arith, common_steps)));
-  removes = record {
-    entries = first_of (search rules, grind (arith, common_steps));
-    own = λ feeds. own-removed feeds c.args.self.now.entries _ (length c.args.self.now.entries - 1) (first_of (search rules, grind (arith, common_steps)));
-    kept = first_of (search rules, grind (arith, common_steps));
-  };
+returns-clause-takes g c = rw (← c.self.view_is) (takes-out_last g.K.PartialEq.eq g.met.K.Eq.laws _ _ c.pop.result c.self.invariant.single c.pop.ensures.taken)
+
+pub returns-clause-count : goal.returns-clause-count
+returns-clause-count g c = first_of (search rules, grind (arith, common_steps))
+
+pub returns-clause-removes : goal.returns-clause-removes
+returns-clause-removes g c = record {
+  entries = first_of (search rules, grind (arith, common_steps));
+  own = λ feeds. own-removed feeds c.args.self.now.entries _ (length c.args.self.now.entries - 1) (first_of (search rules, grind (arith, common_steps)));
+  kept = first_of (search rules, grind (arith, common_steps));
 }
 
 pub invariant_of-self : goal.invariant_of-self

@@ -17,8 +17,8 @@ module _ {F : Type 0} (g : Mut F (Bor ℕ × Unit {0}) Bool) (hs : List ℕ) (t 
       transported g g (λ f. f) (λ _. ⊤) (λ p. (p.1, p.1)) (items_under hash t) (λ p among s b n sees called. (tt, called)) (option_and_then (item_in t)) refl (λ p among. ap (option_map (λ m. m.1)) (member_at-items_under hash t p among))
       (indices_under hash hs) eq last slot (indices-moved hs t hash bag) tt search
 
-pub find_item-requires : goal.find_item-requires
-find_item-requires g c =
+pub find_item_unchecked-requires-clause-callable : goal.find_item_unchecked-requires-clause-callable
+find_item_unchecked-requires-clause-callable g c =
     let bag = subst (λ h. IsPermutation (numbered h.list) (members c.self.inside.table)) c.self.view_is c.self.invariant.bag in
     let may : CanSearch g.F.FnMut (items_under (hash_under c.args.hash) c.self.inside.table) c.args.eq = can_in g.F.FnMut _ c.self.inside.table bag (hash_under c.args.hash) c.args.eq c.requires in search (rules, may)
 

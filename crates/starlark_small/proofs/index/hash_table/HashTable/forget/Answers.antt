@@ -1,8 +1,12 @@
 use Rattle.starlark_hash.proofs.Common.{◌+◌, ◌<◌, ◌∙◌, ap, arith, length, subst, sym, vec_capacity, remove}
 use Rattle.starlark_small.specs.Hashes.{forgotten}
 use Rattle.starlark_small.specs.Slots.{hashes_in}
-use Rattle.starlark_small.proofs.Kept.{Keeps, keeps-forgotten, length-hashes_in, seen, stands-but}
+use Rattle.starlark_small.proofs.Kept.{Keeps, keeps-forgotten, length-hashes_in, seen, stands-but, stands-named}
 use Rattle.starlark_small.proofs.index.hash_table.HashTable.forget.Goals as goal
+
+pub take_index-requires-clause-stands : goal.take_index-requires-clause-stands
+take_index-requires-clause-stands c =
+    stands-named _ _ _ c.self.invariant c.args.index (omega (arith, c.requires, ap (λ h. length h.list) c.self.view_is, length-hashes_in c.self.inside.table.slots c.self.inside.cells.0.items))
 
 pub lower_above-requires-clause-stands : goal.lower_above-requires-clause-stands
 lower_above-requires-clause-stands c =

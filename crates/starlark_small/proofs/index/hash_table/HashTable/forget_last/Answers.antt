@@ -2,8 +2,13 @@ use Rattle.starlark_hash.proofs.Common.{◌≡◌, ◌+◌, ◌-◌, ◌∙◌, 
 use Rattle.std.proofs.Common.{vec_len}
 use Rattle.starlark_small.specs.Hashes.{forgotten}
 use Rattle.starlark_small.specs.Slots.{hashes_in}
-use Rattle.starlark_small.proofs.Kept.{Keeps, keeps-forgotten_last, length-hashes_in, seen, view_of}
+use Rattle.starlark_small.proofs.Kept.{Keeps, keeps-forgotten_last, length-hashes_in, seen, stands-named, view_of}
 use Rattle.starlark_small.proofs.index.hash_table.HashTable.forget_last.Goals as goal
+
+pub take_index-requires-clause-stands : goal.take_index-requires-clause-stands
+take_index-requires-clause-stands c =
+    stands-named _ _ _ c.self.invariant (c.len-last.result - 1)
+    (omega (arith, c.requires, ap (λ h. length h.list) c.self.view_is, length-hashes_in c.self.inside.table.slots c.self.inside.cells.0.items, c.len-last.ensures, c.self.inside.cells.0.ok.0))
 
 kept : (c : goal.After-pop) → Keeps (remove (hashes_in c.self.inside.table.slots c.self.inside.cells.0.items) (c.len-last.result - 1)) (c.self.inside.table.room + 1) c.take_index.new.table c.pop.new.self.items (vec_capacity c.pop.new.self)
 kept c =

@@ -5,4 +5,5 @@ use Rattle.starlark_small.proofs.index.hash_table.HashTable.with_capacity.Goals 
 pub invariant_of-result : goal.invariant_of-result
 invariant_of-result c =
     let made = c.in_ok-table.ensures in let few = c.if-capacity-gt-LONGEST.false in
-    (keeps-none _ _ _ made.empty c.in_ok-cells.ensures.items (omega (arith, c.in_ok-cells.ensures.exact, c.room.ensures)) (omega (arith, made.slots, few)) (omega (arith, made.most, few))).keeps
+    (keeps-none _ _ _ made.empty c.in_ok-cells.ensures.items (omega (arith, c.in_ok-cells.ensures.exact, c.room.ensures))
+    (omega (arith, made.room, made.load, c.requires), made.fewest 29 (omega (arith, few))) (omega (arith, made.load, made.fewest 29 (omega (arith, few))))).keeps
