@@ -1,4 +1,4 @@
--- What the clauses of sets say in the callers' words: that a refused element was lacking, and that the key that is found passes.
+-- What the clauses of sets say by look-ups: that a refused element was lacking, and that the key that is found passes.
 use Rattle.starlark_hash.proofs.Common.{◌≡◌, ℕ, Bool, true, false, List, Option, Some, Result, OnErr, is_some, slice_get, refl, arith, IfSome, option_map, get_or_from_slice_get}
 use Rattle.starlark_hash.specs.declared.hashed.Hashed.{Hashed}
 use Rattle.starlark_hash.specs.declared.hash_value.StarlarkHashValue.{StarlarkHashValue}
@@ -11,7 +11,7 @@ use Rattle.starlark_sets.specs.Set.{Set}
 use Rattle.starlark_hash.specs.Lookup.{found, found_key}
 
 module _ {T A E : Type 0} (eq : T → T → Bool) (old new : Set T) (element : Hashed T) where
-  pub absent-added : (r : Result A E) → Adds eq old element r new → OnErr r (is_some (found (eq (key_of element)) (hash_of element) old.entries) ≡ false)
+  pub absent-added : (r : Result A E) → Adds eq old new element r → OnErr r (is_some (found (eq (key_of element)) (hash_of element) old.entries) ≡ false)
   absent-added r h = rw (← is_some-found (eq (key_of element)) (hash_of element) old.entries) (grind arith)
 
 -- the key that is found passes
@@ -26,3 +26,14 @@ module _ {K V : Type 0} (test : K → Bool) (hash : StarlarkHashValue) where
   pub key_stands : (es : List (Entry K V)) (o : Option K) → o ≡ option_map entry_key (entry_at es (position_of hash test es)) → (o ≡ found_key test hash es) × (is_some o ≡ is_some (found test hash es)) × IfSome o (λ k. test k ≡ true)
   unfolding found found_key
   key_stands es o is = let s = stands_so es (position_of hash test es) _ refl refl in rw is (refl, s.0, s.1)
+
+  -- whether there is a stored key, and that it passes
+  pub is_some-found_key : (es : List (Entry K V)) (o : Option K) → o ≡ found_key test hash es → is_some o ≡ is_some (found test hash es)
+  unfolding found_key
+  is_some-found_key es o is = (key_stands es o is).1
+
+  pub passes-found_key : (es : List (Entry K V)) (o : Option K) → o ≡ found_key test hash es → IfSome o (λ k. test k ≡ true)
+  unfolding found_key
+  passes-found_key es o is = (key_stands es o is).2
+
+pub ruleset lookups = (is_some-found_key, passes-found_key)

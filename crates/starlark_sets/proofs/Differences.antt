@@ -9,6 +9,7 @@ use Rattle.starlark_hash.specs.declared.hashed.Hashed.{Hashed}
 use Rattle.starlark_hash.specs.Entries.{Entry, IsSingle, entry_hash, entry_key, match_of, stands_under}
 use Rattle.starlark_hash.proofs.PositionLemmas.{position-cons}
 use Rattle.starlark_small.specs.CompareLaws.{alike, alike-laws}
+use Rattle.starlark_small.proofs.CallerLookup.{is_some-found}
 use Rattle.starlark_small.proofs.SameEntries.{distinct}
 use Rattle.starlark_sets.specs.Difference.{lacks, difference, past}
 use Rattle.starlark_sets.specs.Set.{Elements}
@@ -83,6 +84,6 @@ module _ {T : Type 0} (eq : T → T → Bool) where
       → (difference eq es other ≡ e ∷ difference eq fs other) × (past (lacks eq other) es ≡ fs)
   reached es e fs other is lacking = grind arith
 
-pub ruleset differences = (reached)
+pub ruleset differences = (reached, is_some-found)
 
 pub ruleset unions = (length-difference-le)

@@ -1,28 +1,11 @@
--- The stored keys that are found, and what is found once an entry was taken out of its index.
-use Rattle.starlark_hash.proofs.Common.{◌≡◌, ℕ, Bool, List, remove, Option, Some, None, slice_get, refl, subst, sym, arith, IsEquivalence, option_copied, option_map, same_Some, common_steps}
-use Rattle.std.proofs.Common.{Bor}
+-- What is found once an entry was removed from its index.
+use Rattle.starlark_hash.proofs.Common.{◌≡◌, ℕ, Bool, List, remove, Option, Some, None, slice_get, refl, subst, sym, arith, IsEquivalence, option_map, same_Some, common_steps}
 use Rattle.std.specs.Option.{IfNone}
 use Rattle.std.proofs.lemmas.Option.{slice_get_cases}
 use Rattle.starlark_hash.specs.declared.hashed.Hashed.{Hashed}
-use Rattle.starlark_hash.specs.declared.hash_value.StarlarkHashValue.{StarlarkHashValue}
-use Rattle.starlark_hash.specs.Entries.{Entry, IsSingle, position_of}
+use Rattle.starlark_hash.specs.Entries.{Entry, IsSingle}
 use Rattle.starlark_small.proofs.CallerRemove.{writes-taken}
 use Rattle.starlark_hash.specs.Lookup.{Writes}
-use Rattle.starlark_small.specs.Remove.{Removes}
-use Rattle.starlark_sets.specs.Set.{Set, element_at}
-use Rattle.starlark_sets.specs.Lookup.{ShowsElement}
-use Rattle.starlark_sets.specs.Remove.{RemovesElement}
-use Rattle.starlark_sets.proofs.Callers.{key_stands}
-
-module _ {T : Type 0} (test : T → Bool) (hash : StarlarkHashValue) (s : Set T) where
-  -- what stands at the index that a test names is what is shown
-  pub shows-element : (o : Option (Bor T)) → option_copied o ≡ element_at s (position_of hash test s.entries) → ShowsElement test hash s o
-  shows-element None is = let stands = key_stands test hash s.entries None is in assumption
-  shows-element (Some p) is = let stands = key_stands test hash s.entries (Some p.now) is in assumption
-
-  -- or is taken out
-  pub takes-element : (eq : T → T → Bool) (new : Set T) (o : Option T) → o ≡ element_at s (position_of hash test s.entries) → Removes eq test hash s new → RemovesElement eq test hash s new o
-  takes-element eq new o is removes = let stands = key_stands test hash s.entries o is in assumption
 
 module _ {K V : Type 0} (eq : K → K → Bool) (laws : IsEquivalence eq) where
   an_entry : {Y : Type 0} (f : Entry K V → Y) (y : Y) (o : Option (Entry K V)) → Some y ≡ option_map f o → (e : Entry K V) × (o ≡ Some e) × (f e ≡ y)
@@ -40,4 +23,4 @@ module _ {K V : Type 0} (eq : K → K → Bool) (laws : IsEquivalence eq) where
 pub stays-beyond : {X Y : Type 0} (f : X → Y) (xs ys : List X) (i : ℕ) (o : Option Y) → o ≡ option_map f (slice_get xs i) → ys ≡ remove xs i → IfNone o (ys ≡ xs)
 stays-beyond f xs ys i o at is = grind (arith, common_steps, slice_get_cases)
 
-pub ruleset lookups = (shows-element, takes-element)
+pub ruleset removals = (writes-key, stays-beyond)

@@ -42,11 +42,11 @@ module _ {Q T : Type 0} (eq : T → T → Bool) (laws : IsEquivalence eq) (equiv
       let w = writes-inserted eq laws old.entries new.entries (hashed hash e) tt put in
       (ap (value_at new.entries) (position_of-match eq test one (hashed hash e) does new.entries) ∙ w.0, λ h other apart. w.1 h other (sym (one e other does) ∙ apart))
 
-  puts_at : (index : Option ℕ) → position_of hash test old.entries ≡ index → {E : Type 0} (r : Result (Bor T) E) → AddsFor equivalent query hash old r new
+  puts_at : (index : Option ℕ) → position_of hash test old.entries ≡ index → {E : Type 0} (r : Result (Bor T) E) → AddsFor equivalent hash old new query r
       → MatchOption index
-      (MatchResult r (λ p. IsTrue (equivalent query p.now) × IsInserted old (hashed hash p.now) tt new) (λ _. IsRefused old new))
+      (MatchResult r (λ p. IsTrue (equivalent query p.now) × IsInserted old new (hashed hash p.now) tt) (λ _. IsRefused old new))
       (λ i. MatchResult r (λ p. (element_at old (position_of hash test old.entries) ≡ Some p.now) × (new ≡ old)) (λ _. ⊥))
-      → PutsElementFor eq equivalent feeds query old r new
+      → PutsElementFor eq equivalent feeds old new query r
   puts_at None at (Ok p) adds h =
       let put = put_for p.now h.0 at h.1.entries in let lacking = ap is_some (none_found test hash old.entries at) in record {
         equal = h.0;
@@ -54,11 +54,11 @@ module _ {Q T : Type 0} (eq : T → T → Bool) (laws : IsEquivalence eq) (equiv
         count = grind (arith, lacking, ap length h.1.entries, length_push old.entries (hashed hash p.now, tt));
         own = λ stored alike. own-inserted stored eq old.entries new.entries (hashed hash p.now) tt put (λ j. own_hash (λ (_ : T). alike p.now h.0 j) p.now);
         unchanged = tt;
-        absent = tt;
+        lacking = tt;
         set = adds;
       }
   puts_at None at (Err e) adds h =
-      record { equal = tt; updates = tt; count = tt; own = λ stored alike. own-same stored old.entries new.entries h.entries; unchanged = h.entries; absent = ap is_some (none_found test hash old.entries at); set = adds }
+      record { equal = tt; updates = tt; count = tt; own = λ stored alike. own-same stored old.entries new.entries h.entries; unchanged = h.entries; lacking = ap is_some (none_found test hash old.entries at); set = adds }
   puts_at (Some i) at (Ok p) adds h =
       let same = ap (λ (m : Set T). m.entries) h.1 in let there : is_some (found test hash old.entries) ≡ true = rw (← is_some-found test hash old.entries, at) refl in record {
         equal = (key_stands test hash old.entries (Some p.now) (sym h.0)).2;
@@ -66,36 +66,36 @@ module _ {Q T : Type 0} (eq : T → T → Bool) (laws : IsEquivalence eq) (equiv
         count = grind (arith, there, ap length same);
         own = λ stored alike. own-same stored old.entries new.entries same;
         unchanged = tt;
-        absent = tt;
+        lacking = tt;
         set = adds;
       }
   puts_at (Some i) at (Err e) adds h = absurd h
 
-  pub puts-for : {E : Type 0} (r : Result (Bor T) E) → AddsFor equivalent query hash old r new → PutsElementFor eq equivalent feeds query old r new
+  pub puts-for : {E : Type 0} (r : Result (Bor T) E) → AddsFor equivalent hash old new query r → PutsElementFor eq equivalent feeds old new query r
   puts-for r adds = puts_at (position_of hash test old.entries) refl r adds adds
 
-module _ {T B : Type 0} (eq : T → T → Bool) (laws : IsEquivalence eq) (element : Hashed T) (old : Set T) (back : B) where
+module _ {T : Type 0} (eq : T → T → Bool) (laws : IsEquivalence eq) (element : Hashed T) (old : Set T) where
   -- what is shown is the element that was found, or else this one
-  pub shows-put : (r : Result (Bor T) (NoRoom B)) → IfOk r (λ p. p.now ≡ unwrap_or (element_at old (match_of eq old.entries element)) (key_of element))
-      → OnErr r (is_some (found (eq (key_of element)) (hash_of element) old.entries) ≡ false) → IfErr r (λ refused. refused.0 ≡ back) → ShowsPut eq element back old r
+  pub shows-put : (r : Result (Bor T) (NoRoom T)) → IfOk r (λ p. p.now ≡ unwrap_or (element_at old (match_of eq old.entries element)) (key_of element))
+      → OnErr r (is_some (found (eq (key_of element)) (hash_of element) old.entries) ≡ false) → IfErr r (λ refused. refused.0 ≡ key_of element) → ShowsPut eq old element r
   shows-put r is lacking handed =
       let stands = key_stands (eq (key_of element)) (hash_of element) old.entries (element_at old (match_of eq old.entries element)) refl in
-      record { element = is; stored = rw (← stands.0) is; equal = grind (arith, laws.refl (key_of element), stands.2); absent = lacking; handed_back = handed }
+      record { shown = rw (← stands.0) is; equal = grind (arith, laws.refl (key_of element), stands.2); lacking = lacking; handed_back = handed }
 
 module _ {T : Type 0} (eq : T → T → Bool) (element : Hashed T) (old new : Set T) where
   answered_at : (index : Option ℕ) (there : Option T) (b : Bool) (r : Result (Unit {0}) (TryInsertError T))
-      → MatchOption index (MatchResult r (λ _. IsInserted old element tt new) (λ _. IsRefused old new × (old.room ≡ 0))) (λ _. IsErr r × (new ≡ old)) → IfErr r (IsRefusal there (key_of element))
+      → MatchOption index (MatchResult r (λ _. IsInserted old new element tt) (λ _. IsRefused old new × (old.room ≡ 0))) (λ _. IsErr r × (new ≡ old)) → IfErr r (IsRefusal there (key_of element))
       → is_some index ≡ b → is_some there ≡ b → IfSome there (λ k. eq (key_of element) k ≡ true)
       → OnOk r (b ≡ false) × IfErr r (λ e. b ≡ is_occupied e) × IfErr r (ShowsEqual eq (key_of element)) × IfErr r (λ e. is_occupied e ≡ false → old.room ≡ 0)
   answered_at index there b r tries told found there_is passes = grind arith
 
   -- what a try answers
-  pub answers-try : (r : Result (Unit {0}) (TryInsertError T)) → Tries eq old element r new → IfErr r (IsRefusal (element_at old (match_of eq old.entries element)) (key_of element))
-      → AnswersTry eq element old r
+  pub answers-try : (r : Result (Unit {0}) (TryInsertError T)) → Tries eq old new element r → IfErr r (IsRefusal (element_at old (match_of eq old.entries element)) (key_of element))
+      → AnswersTry eq old element r
   answers-try r tries told =
       let stands = key_stands (eq (key_of element)) (hash_of element) old.entries (element_at old (match_of eq old.entries element)) refl in
       let all = answered_at (match_of eq old.entries element) _ _ r tries told (is_some-found (eq (key_of element)) (hash_of element) old.entries) stands.1 stands.2 in
-      record { lacking = all.0; there = all.1; equal = all.2; refused = told; full = all.3 }
+      record { lacking = all.0; there = all.1; equal = all.2; refused = rw (← stands.0) told; full = all.3 }
 
 last_of : {X : Type 0} (xs : List X) (x : X) → slice_get (xs ++ x ∷ []) (length xs) ≡ Some x
 last_of [] x = refl
@@ -103,18 +103,18 @@ last_of (y ∷ xs) x = last_of xs x
 
 module _ {Q T : Type 0} (equivalent : Q → T → Bool) (query : Q) (hash : StarlarkHashValue) (old new : Set T) (i : ℕ) (p : Bor T) where
   shown_at : (index : Option ℕ) → position_of hash (equivalent query) old.entries ≡ index
-      → MatchOption index ((i ≡ length old.entries) × ((element : T) × IsTrue (equivalent query element) × IsInserted old (hashed hash element) tt new)) (λ j. (i ≡ j) × (new ≡ old))
+      → MatchOption index ((i ≡ length old.entries) × ((element : T) × IsTrue (equivalent query element) × IsInserted old new (hashed hash element) tt)) (λ j. (i ≡ j) × (new ≡ old))
       → option_map entry_key (slice_get new.entries i) ≡ Some p.now
-      → MatchOption index (IsTrue (equivalent query p.now) × IsInserted old (hashed hash p.now) tt new) (λ j. (element_at old (position_of hash (equivalent query) old.entries) ≡ Some p.now) × (new ≡ old))
+      → MatchOption index (IsTrue (equivalent query p.now) × IsInserted old new (hashed hash p.now) tt) (λ j. (element_at old (position_of hash (equivalent query) old.entries) ≡ Some p.now) × (new ≡ old))
   shown_at None at h is =
       let e = h.1.0 in
       let there : Some e ≡ Some p.now = sym (rw (h.1.2.entries, h.0) (ap (option_map entry_key) (last_of old.entries (hashed hash e, tt)))) ∙ is in
-      subst (λ x. IsTrue (equivalent query x) × IsInserted old (hashed hash x) tt new) (same_Some e p.now there) (h.1.1, h.1.2)
+      subst (λ x. IsTrue (equivalent query x) × IsInserted old new (hashed hash x) tt) (same_Some e p.now there) (h.1.1, h.1.2)
   shown_at (Some j) at h is = (
     ap (element_at old) at ∙ ap (λ k. option_map entry_key (slice_get old.entries k)) (sym h.0) ∙ ap (λ (m : Set T). option_map entry_key (slice_get m.entries i)) (sym h.1) ∙ is,
     h.1,
   )
 
   -- what is said of an index holds of the element that is shown there
-  pub shown-for : (E : Type 0) → AddsAt {E = E} equivalent query hash old (Ok i) new → option_map entry_key (slice_get new.entries i) ≡ Some p.now → AddsFor {E = E} equivalent query hash old (Ok p) new
+  pub shown-for : (E : Type 0) → AddsAt {E = E} equivalent hash old new query (Ok i) → option_map entry_key (slice_get new.entries i) ≡ Some p.now → AddsFor {E = E} equivalent hash old new query (Ok p)
   shown-for E adds is = shown_at (position_of hash (equivalent query) old.entries) refl adds is

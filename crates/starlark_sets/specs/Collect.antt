@@ -1,13 +1,13 @@
 -- Sets of an iterator's items.
-use Rattle.std.specs.Prelude.{◌≡◌, ◌||◌, ◌+◌, ◌≤◌, [], Bool, false, OnOk, Option, Result, map}
+use Rattle.std.specs.Prelude.{◌≡◌, ◌||◌, [], Bool, false, Option, map}
 use Rattle.std.specs.Hash.{HashWrites}
-use Rattle.std.specs.Iterator.{Count, size}
+use Rattle.std.specs.Iterator.{Count}
 use Rattle.std.specs.Iterator.Runs.{WholeRun}
 use Rattle.std.specs.Set.{is_member}
 use Rattle.starlark_hash.specs.declared.hashed.Hashed.{Hashed}
 use Rattle.starlark_hash.specs.Entries.{Entry}
 use Rattle.starlark_small.specs.Lookup.{AreOwn, AreOwnEntries, contains}
-use Rattle.starlark_small.specs.Collect.{Collects, Extends, IsExtended, insert_all}
+use Rattle.starlark_small.specs.Collect.{Collects, insert_all}
 use Rattle.starlark_small.specs.Map.{own_hashed}
 use Rattle.starlark_sets.specs.Set.{Set}
 
@@ -32,15 +32,6 @@ module _ {T S U : Type 0} (eq : T → T → Bool) (feeds : T → HashWrites) (st
     pub found : HasEach eq feeds steps becomes iter (λ _. false) s
     pub set : Collects eq (own_element feeds) steps becomes remaining iter s
     pub own : AreOwn feeds s
-
-  -- the iterator's items went into the old set in their order, each under its own hash: all of them, or, after a refusal, those
-  -- before a new element
-  pub record TakesInEach {E : Type 0} (old new : Set T) (r : Result (Unit {0}) E) : Type 0 where
-    pub found : OnOk r (HasEach eq feeds steps becomes iter (contains eq feeds old) new)
-    pub entries : Extends eq (own_element feeds) steps becomes iter old.entries new.entries r
-    pub memory : IsExtended ((it : S) → becomes iter it → size (remaining it) ≤ old.room) old new r
-    pub left : (it : S) × becomes iter it × (old.room ≤ new.room + size (remaining it))
-    pub own : AreOwn feeds old → AreOwn feeds new
 
 -- the set has the iterator's elements, inserted in their order
 abbrev pub InsertsEach : {T S U : Type 0} → (T → T → Bool) → (S → Option (Hashed T) → S → Type 0) → (U → S → Type 0) → U → Set T → Type 0

@@ -3,6 +3,7 @@
 use Rattle.std.specs.Prelude.{⊤, ◌≡◌, Bool, Option, Some, IsSome}
 use Rattle.std.specs.Borrow.{Fml, RattleType, MutBor, follows_so, GName, Lends, LendsSo, follows}
 use mathlib.Core.Option.{none}
+use Rattle.std.specs.Hash.{HashWrites}
 use Rattle.std.specs.declared.cmp.PartialEq as eq
 use Rattle.starlark_sets.specs.Set.{Set}
 use Rattle.starlark_sets.specs.contracts.small_set.SmallSet.{the_row as set_type}
@@ -10,6 +11,7 @@ use Rattle.starlark_sets.specs.contracts.ordered_set.OrderedSet.{the_row as orde
 use Rattle.starlark_hash.specs.declared.hash_value.StarlarkHashValue.{StarlarkHashValue}
 use Rattle.starlark_hash.specs.Entries.{position_of, with_value}
 use Rattle.starlark_vecmap.specs.EntryList.{with_values}
+use Rattle.starlark_small.specs.Lookup.{keys, AreOwn}
 use Rattle.starlark_small.specs.Map.{Map}
 use Rattle.starlark_small.specs.MapEntry.{map_of_entry}
 use Rattle.starlark_small.specs.declared.entry.Entry.{Entry}
@@ -28,12 +30,14 @@ module _ (T : RattleType) (g : eq.Ghosts T.Denot) (s : MutBor (Set T.Denot)) whe
   ordered_ends_so P = follows_so (ordered_set_type T g) (ordered_set_type T g) s.ghost_name none (λ _ _. ⊤) P
 
 module _ (K V : RattleType) (g : eq.Ghosts K.Denot) (s : MutBor (Map K.Denot V.Denot)) where
-  -- the value at the index that was found ends as what is left behind the reference, a look-up then finds it, and all else
-  -- stays; where none was found, the map stays
+  -- the value that a test finds under a hash ends as what is left behind the reference, and all else stays: by look-ups; the keys
+  -- in their order, and which are under their own hashes; and where the value is left as it was, the map is as it was. Where there
+  -- is none, the map stays
   abbrev pub lends_get : (K.Denot → Bool) → StarlarkHashValue → Option (MutBor V.Denot) → Fml
   lends_get test hash r = LendsSo (the_row K V g) V s r
-      (λ n w. (n ≡ record s.now { entries = with_value s.now.entries (position_of hash test s.now.entries) w })
-      × (IsSome (found test hash s.now.entries) → Writes g.eq test hash s.now.entries n.entries (Some w)))
+      (λ n w. (n ≡ record s.now { entries = with_value s.now.entries (position_of hash test s.now.entries) w }) × (keys n ≡ keys s.now)
+      × (IsSome (found test hash s.now.entries) → Writes g.eq test hash s.now.entries n.entries (Some w))
+      × ((feeds : K.Denot → HashWrites) → AreOwn feeds s.now → AreOwn feeds n) × (found test hash s.now.entries ≡ Some w → n ≡ s.now))
       (λ n. n ≡ s.now)
 
   -- the map ends with the values that the loan of this name ends with, and all else stays

@@ -2,8 +2,6 @@ pub mod Compare
 pub mod CompareLaws
 pub mod TryInsert
 pub mod Set
-pub mod Lookup
-pub mod Remove
 pub mod Lend
 pub mod Difference
 pub mod Union

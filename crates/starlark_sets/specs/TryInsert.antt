@@ -4,9 +4,9 @@ use Rattle.std.specs.Option.{option_map}
 use Rattle.starlark_hash.specs.HashValue.{hash_of, key_of}
 use Rattle.starlark_hash.specs.declared.hashed.Hashed.{Hashed}
 use Rattle.starlark_hash.specs.Entries.{entry_key, match_of}
-use Rattle.starlark_hash.specs.Lookup.{found}
+use Rattle.starlark_hash.specs.Lookup.{found, found_key}
 use Rattle.starlark_small.specs.Insert.{IsInserted, IsRefused}
-use Rattle.starlark_sets.specs.Set.{Elements, Set, element_at}
+use Rattle.starlark_sets.specs.Set.{Elements, Set}
 use Rattle.starlark_sets.specs.declared.ordered_set.try_insert.TryInsertError.{TryInsertError}
 use Rattle.starlark_sets.specs.declared.ordered_set.try_insert.TryInsertError.TheVariants.{Occupied, Memory}
 use Rattle.starlark_sets.specs.declared.ordered_set.try_insert.Refusal.{Refusal}
@@ -15,10 +15,10 @@ use Rattle.starlark_sets.specs.declared.ordered_set.try_insert.Refusal.TheVarian
 module _ {T : Type 0} where
   -- new is old after this element was tried: where an equal one stands under its hash it is refused and nothing changes; a new
   -- one goes last, or is refused, which happens at room 0 alone
-  abbrev pub Tries : {A E : Type 0} → (T → T → Bool) → Set T → Hashed T → Result A E → Set T → Type 0
-  Tries eq old element r new =
+  abbrev pub Tries : {A E : Type 0} → (T → T → Bool) → Set T → Set T → Hashed T → Result A E → Type 0
+  Tries eq old new element r =
       MatchOption (match_of eq old.entries element)
-      (MatchResult r (λ _. IsInserted old element tt new) (λ _. IsRefused old new × (old.room ≡ 0)))
+      (MatchResult r (λ _. IsInserted old new element tt) (λ _. IsRefused old new × (old.room ≡ 0)))
       (λ _. IsErr r × (new ≡ old))
 
   -- the refused element, beside the one that is there; or alone, where none is there
@@ -37,12 +37,12 @@ module _ {T : Type 0} where
   ShowsEqual eq value (Memory e) = ⊤
 
   -- this element went in, and was lacking; or it was refused, for an equal one that is there or, at room 0 alone, for want of memory
-  pub record AnswersTry (eq : T → T → Bool) (element : Hashed T) (before : Set T) (r : Result (Unit {0}) (TryInsertError T)) : Type 0 where
-    pub lacking : OnOk r (is_some (found (eq (key_of element)) (hash_of element) before.entries) ≡ false)
-    pub there : IfErr r (λ refused. is_some (found (eq (key_of element)) (hash_of element) before.entries) ≡ is_occupied refused)
+  pub record AnswersTry (eq : T → T → Bool) (old : Set T) (element : Hashed T) (r : Result (Unit {0}) (TryInsertError T)) : Type 0 where
+    pub lacking : OnOk r (is_some (found (eq (key_of element)) (hash_of element) old.entries) ≡ false)
+    pub there : IfErr r (λ refused. is_some (found (eq (key_of element)) (hash_of element) old.entries) ≡ is_occupied refused)
     pub equal : IfErr r (ShowsEqual eq (key_of element))
-    pub refused : IfErr r (IsRefusal (element_at before (match_of eq before.entries element)) (key_of element))
-    pub full : IfErr r (λ refused. is_occupied refused ≡ false → before.room ≡ 0)
+    pub refused : IfErr r (IsRefusal (found_key (eq (key_of element)) (hash_of element) old.entries) (key_of element))
+    pub full : IfErr r (λ refused. is_occupied refused ≡ false → old.room ≡ 0)
 
   -- the refused element, beside the index of the one that is there
   abbrev pub IsPlaced : Elements T → Option T → T → Refusal T → Type 0

@@ -1,7 +1,9 @@
 //! `smallset!`.
-ghost use Rattle.std.specs.Prelude.{◌<◌, IfOk, IsErr, IsOk, MatchResult};
-ghost use Rattle.starlark_small.specs.Map.{KeepsRoom, own_hashed};
-ghost use Rattle.starlark_sets.specs.Insert.{Adds};
+ghost use Rattle.std.specs.Prelude.{◌≡◌, ◌<◌, IfOk, IsErr, IsOk, MatchResult, true};
+ghost use Rattle.starlark_hash.specs.Insert.{insert_entry};
+ghost use Rattle.starlark_small.specs.Insert.{LeavesMemory};
+ghost use Rattle.starlark_small.specs.Lookup.{contains};
+ghost use Rattle.starlark_small.specs.Map.{own_hashed};
 
 use crate::SmallSet;
 use std::alloc::AllocError;
@@ -22,15 +24,17 @@ macro_rules! smallset {
     }};
 }
 
-/// One step of `smallset!`: inserts into a set that was made, as `SmallSet::insert` does. With room to spare it is not
-/// refused; a set that was refused stays so.
+/// One step of `smallset!`: inserts into a set that was made, as `SmallSet::insert` does. An element that is there is
+/// never refused, nor is any with room to spare; a set that was refused stays so. Room, capacity and index are left as an
+/// insertion leaves them.
 pub fn inserted<T: Eq + Hash + Drop>(
     set: Result<SmallSet<T>, AllocError>,
     element: T,
 ) -> Result<SmallSet<T>, AllocError>
-    ensures set { MatchResult set (λ old. IfOk result (Adds T.eq old (own_hashed T.hash_input element) result)) (λ _. IsErr result) }
+    ensures entries { MatchResult set (λ old. IfOk result (λ new. new.entries ≡ insert_entry T.eq old.entries (own_hashed T.hash_input element) tt)) (λ _. IsErr result) }
     ensures succeeds { IfOk set (λ old. 0 < old.room → IsOk result) }
-    ensures room { IfOk set (λ old. IfOk result (KeepsRoom old)) }
+    ensures present { IfOk set (λ old. contains T.eq T.hash_input old element ≡ true → IsOk result) }
+    ensures memory { IfOk set (λ old. IfOk result (λ new. LeavesMemory T.eq old new (own_hashed T.hash_input element))) }
 {
     let mut set = set?;
     match set.insert(element) {

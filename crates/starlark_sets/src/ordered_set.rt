@@ -1,24 +1,24 @@
 //! A set whose order counts when it is compared. It alone sees the set inside.
-ghost use Rattle.std.specs.Prelude.{◌≡◌, ◌-◌, ◌==◌, not, is_some, slice_get, length, None, IsOk, IfOk, OnOk, Some};
-ghost use Rattle.starlark_small.specs.New.{IsBare, MakesEmptyFor};
-ghost use Rattle.starlark_small.specs.Clone.{Clones};
+ghost use Rattle.std.specs.Hash.{HashWrites};
+ghost use Rattle.std.specs.Iterator.{IsFiniteIterable, size};
 ghost use Rattle.std.specs.Option.{option_copied, option_map};
+ghost use Rattle.std.specs.Prelude.{◌≡◌, ◌≤◌, ◌+◌, ◌-◌, ◌==◌, [], not, false, true, is_some, slice_get, length, None, IfErr, IfSome, IsOk, IsTrue, IfOk, OnErr, OnOk, Some, ◌<◌, ◌^◌};
+ghost use Rattle.starlark_hash.specs.Clone.{IsEqualClone};
+ghost use Rattle.starlark_hash.specs.Entries.{entry_key};
 ghost use Rattle.starlark_hash.specs.HashValue.{hash_of, key_of};
-ghost use Rattle.starlark_hash.specs.Entries.{entry_key, position_of, match_of};
 ghost use Rattle.starlark_hash.specs.Hasher.{own_hash};
 ghost use Rattle.starlark_hash.specs.Lookup.{found};
-ghost use Rattle.starlark_small.specs.Lookup.{NamesIndex, TellsPresence, Updates};
-ghost use Rattle.starlark_sets.specs.Lookup.{ShowsElement};
-ghost use Rattle.starlark_sets.specs.Remove.{RemovesElement};
-ghost use Rattle.std.specs.Iterator.{IsFiniteIterable, size};
-ghost use Rattle.starlark_hash.specs.Clone.{IsEqualClone};
-ghost use Rattle.starlark_small.specs.Map.{own_hashed};
-ghost use Rattle.starlark_sets.specs.Collect.{IsSetOf, TakesInEach};
 ghost use Rattle.starlark_hash.specs.Unit.{IsUnitClone};
-ghost use Rattle.starlark_small.specs.Insert.{Inserts, PutsLast};
-ghost use Rattle.starlark_sets.specs.Insert.{Adds};
+ghost use Rattle.starlark_hash.specs.declared.hash_value.StarlarkHashValue.{StarlarkHashValue};
+ghost use Rattle.starlark_small.specs.Clone.{Clones};
+ghost use Rattle.starlark_small.specs.Collect.{Extends, IsExtended};
+ghost use Rattle.starlark_small.specs.Insert.{Inserts, IsInserted, IsRefused, IsRefusedInsertion, LeavesMemory};
+ghost use Rattle.starlark_small.specs.Lookup.{AreOwn, HasKey, IsEmpty, NamesIndex, Updates, contains, get_key};
+ghost use Rattle.starlark_small.specs.Map.{KeepsMemory, own_hashed};
+ghost use Rattle.starlark_small.specs.New.{IsBare, MakesEmptyFor};
+ghost use Rattle.starlark_small.specs.Remove.{Removes};
 ghost use Rattle.starlark_small.specs.Sort.{SortsByKey, Turns};
-ghost use Rattle.starlark_small.specs.Remove.{Clears};
+ghost use Rattle.starlark_sets.specs.Collect.{HasEach, IsSetOf, own_element};
 
 mod compare;
 mod iter;
@@ -65,7 +65,8 @@ impl<T: Eq> OrderedSet<T> {
     /// How many elements there are.
     #[inline]
     pub fn len(&self) -> usize
-        ensures { result ≡ length self.now.entries }
+        ensures len { result ≡ length self.now.entries }
+        ensures few { length self.now.entries < 2 ^ 63 }
     {
         self.0.len()
     }
@@ -81,7 +82,10 @@ impl<T: Eq> OrderedSet<T> {
     /// The element under the query's own hash that the query stands for.
     #[inline(always)]
     pub fn get<Q: Query<T> + Hash>(&self, query: Q) -> Option<&T>
-        ensures { ShowsElement (Q.stands_for query) (own_hash Q.hash_input query) self.now result }
+        // The stored element that is found comes back, and the query stands for it.
+        ensures element { option_copied result ≡ get_key Q.stands_for Q.hash_input self.now query }
+        ensures there { is_some result ≡ contains Q.stands_for Q.hash_input self.now query }
+        ensures equivalent { IfSome result (λ element. IsTrue (Q.stands_for query element.now)) }
     {
         self.0.get(query)
     }
@@ -89,7 +93,9 @@ impl<T: Eq> OrderedSet<T> {
     /// Whether there is an element under the query's own hash that the query stands for.
     #[inline(always)]
     pub fn contains<Q: Query<T> + Hash>(&self, query: Q) -> bool
-        ensures { TellsPresence (Q.stands_for query) (own_hash Q.hash_input query) self.now result }
+        // Whether an element is found, and then the set has one that the query stands for.
+        ensures found { result ≡ contains Q.stands_for Q.hash_input self.now query }
+        ensures key { IsTrue result → HasKey (Q.stands_for query) self.now }
     {
         self.0.contains(query)
     }
@@ -97,8 +103,9 @@ impl<T: Eq> OrderedSet<T> {
     /// Whether there is an element under this hash that the query stands for.
     #[inline(always)]
     pub fn contains_hashed<Q: Query<T>>(&self, query: Hashed<Q>) -> bool
-        ensures index { result ≡ is_some (position_of (hash_of query) (Q.stands_for (key_of query)) self.now.entries) }
+        // Whether an element is found, and then the set has one that the query stands for.
         ensures found { result ≡ is_some (found (Q.stands_for (key_of query)) (hash_of query) self.now.entries) }
+        ensures key { IsTrue result → HasKey (Q.stands_for (key_of query)) self.now }
     {
         self.0.contains_hashed(query)
     }
@@ -142,22 +149,40 @@ impl<T: Eq> OrderedSet<T> {
     pub fn insert(&mut self, element: T) -> Result<bool, NoRoom<T>>
     where
         T: Hash + Drop,
+        // Done: whether the element was lacking comes back. It is there now, and every other element is there if it was.
+        ensures is_new { IfOk result (λ is_new. is_new ≡ not (contains T.eq T.hash_input self.old element)) }
         ensures updates { OnOk result (Updates T.eq T.hash_input self.old self.new element (Some tt)) }
-        ensures inserts { Inserts T.eq (own_hashed T.hash_input element) tt element (λ was. not (is_some was)) self.old self.new result }
-        ensures set { Adds T.eq self.old (own_hashed T.hash_input element) result self.new }
+        // An element that was there changes nothing.
+        ensures there { contains T.eq T.hash_input self.old element ≡ true → IsOk result × (self.new ≡ self.old) }
+        // The list now: an element that is there keeps its index, and a new one is appended.
+        ensures inserts { OnOk result (Inserts T.eq self.old self.new (own_hashed T.hash_input element) tt) }
+        // Elements that are under their own hashes stay so, also where this one is refused.
+        ensures own { AreOwn T.hash_input self.old → AreOwn T.hash_input self.new }
+        // Refused: only a new element, only without room. It comes back, and elements and index are unchanged.
+        ensures refused { OnErr result (IsRefusedInsertion T.eq self.old self.new (own_hashed T.hash_input element)) }
+        ensures handed_back { IfErr result (λ refused. refused.0 ≡ element) }
+        // Done or refused: no room is lost, and with room to spare no memory is asked for.
+        ensures memory { LeavesMemory T.eq self.old self.new (own_hashed T.hash_input element) }
     {
         self.0.insert(element)
     }
 
-    /// Inserts an element that is new under its own hash, which is required and not looked for. It goes last. It is
-    /// refused where there is no room and no memory is found: then it comes back, and elements and index stay.
+    /// Appends an element under its own hash, without a look-up; that it is not there is required. It is refused where
+    /// there is no room and no memory is found: then it comes back, and elements and index stay; the capacity may have
+    /// grown.
     pub fn insert_unique_unchecked(&mut self, element: T) -> Result<(), NoRoom<T>>
     where
         T: Hash,
-        requires { match_of T.eq self.old.entries (own_hashed T.hash_input element) ≡ None }
-        ensures puts_last { PutsLast (own_hashed T.hash_input element) tt element self.old self.new result }
-        ensures inserts { Inserts T.eq (own_hashed T.hash_input element) tt element (λ _. tt) self.old self.new result }
-        ensures lacking { found (T.eq element) (own_hash T.hash_input element) self.old.entries ≡ None }
+        requires { contains T.eq T.hash_input self.old element ≡ false }
+        // Done: the element is the last, it is there now, and every other element is there if it was.
+        ensures inserted { OnOk result (IsInserted self.old self.new (own_hashed T.hash_input element) tt) }
+        ensures updates { OnOk result (Updates T.eq T.hash_input self.old self.new element (Some tt)) }
+        // Elements that are under their own hashes stay so, also where this one is refused.
+        ensures own { AreOwn T.hash_input self.old → AreOwn T.hash_input self.new }
+        // Refused: only without room. The element comes back, and elements and index are unchanged.
+        ensures refused { OnErr result (IsRefused self.old self.new) }
+        ensures full { OnErr result (self.old.room ≡ 0) }
+        ensures handed_back { IfErr result (λ refused. refused.0 ≡ element) }
     {
         self.0.insert_unique_unchecked(element)
     }
@@ -167,7 +192,7 @@ impl<T: Eq> OrderedSet<T> {
     pub fn sort(&mut self) -> Result<(), AllocError>
     where
         T: Ord,
-        ensures { SortsByKey T.eq T.cmp result self.old self.new }
+        ensures { SortsByKey T.eq T.cmp self.old self.new result }
     {
         self.0.sort()
     }
@@ -176,7 +201,12 @@ impl<T: Eq> OrderedSet<T> {
     /// Capacity and index stay.
     #[inline]
     pub fn take<Q: Query<T> + Hash>(&mut self, query: Q) -> Option<T>
-        ensures { RemovesElement T.eq (Q.stands_for query) (own_hash Q.hash_input query) self.old self.new result }
+        // The stored element that was found comes back, and the query stands for it.
+        ensures taken { result ≡ get_key Q.stands_for Q.hash_input self.old query }
+        ensures there { is_some result ≡ contains Q.stands_for Q.hash_input self.old query }
+        ensures equivalent { IfSome result (λ element. IsTrue (Q.stands_for query element)) }
+        // What the set is now.
+        ensures removes { Removes T.eq (Q.stands_for query) (own_hash Q.hash_input query) self.old self.new }
     {
         self.0.take(query)
     }
@@ -185,7 +215,12 @@ impl<T: Eq> OrderedSet<T> {
     pub fn clear(&mut self)
     where
         T: Drop,
-        ensures { Clears self.old self.new }
+        // No element is left, and none is found.
+        ensures entries { self.new.entries ≡ [] }
+        ensures lacks { IsEmpty self.new }
+        ensures own { (feeds : T → HashWrites) → AreOwn feeds self.new }
+        // No room is lost; capacity and index stay.
+        ensures kept { KeepsMemory self.old self.new }
     {
         self.0.clear();
     }
@@ -215,14 +250,24 @@ impl<T: Eq + Hash + Drop> OrderedSet<T> {
     /// insertions one after the other. The iterator must end.
     pub fn extend<I: IntoIterator<Item = T>>(&mut self, iter: I) -> Result<(), AllocError>
         requires { IsFiniteIterable I.into_iter_gives I.IntoIter.can_next I.IntoIter.remaining iter }
-        ensures { TakesInEach T.eq T.hash_input I.IntoIter.next_gives I.into_iter_gives I.IntoIter.remaining iter self.old self.new result }
+        // Done: the set has each of the items, and what it had.
+        ensures found { OnOk result (HasEach T.eq T.hash_input I.IntoIter.next_gives I.into_iter_gives iter (contains T.eq T.hash_input self.old) self.new) }
+        // Done or refused: the items were inserted, or those before a new one; what was there stays, under whatever hash.
+        ensures entries { Extends T.eq (own_element T.hash_input) I.IntoIter.next_gives I.into_iter_gives iter self.old.entries self.new.entries result }
+        ensures stays { (under : StarlarkHashValue) (element : T) → is_some (found (T.eq element) under self.old.entries) ≡ true → is_some (found (T.eq element) under self.new.entries) ≡ true }
+        ensures longer { length self.old.entries ≤ length self.new.entries }
+        ensures own { AreOwn T.hash_input self.old → AreOwn T.hash_input self.new }
+        // With room for all items no memory is asked for; each item uses up one at most.
+        ensures memory { IsExtended ((it : _) → I.into_iter_gives iter it → size (I.IntoIter.remaining it) ≤ self.old.room) self.old self.new result }
+        ensures left { (it : _) × I.into_iter_gives iter it × (self.old.room ≤ self.new.room + size (I.IntoIter.remaining it)) }
     {
         self.0.extend(iter)
     }
 
     /// A set of the items, inserted in their order, each under its own hash. It begins with room for the lower bound of
     /// the iterator's `size_hint`. Where memory is refused, nothing is made and the items are dropped. Capacity and
-    /// index are as `SmallMap::from_iter` makes them. Without items it is not refused. The iterator must end.
+    /// index are as `SmallMap::from_iter` makes them. Where the iterator bounds that it has no items, it is not refused.
+    /// The iterator must end.
     pub fn from_iter<I: IntoIterator<Item = T>>(alloc: Global, iter: I) -> Result<Self, AllocError>
         requires { IsFiniteIterable I.into_iter_gives I.IntoIter.can_next I.IntoIter.remaining iter }
         ensures made { IfOk result (IsSetOf T.eq T.hash_input I.IntoIter.next_gives I.into_iter_gives I.IntoIter.remaining iter) }
@@ -233,9 +278,10 @@ impl<T: Eq + Hash + Drop> OrderedSet<T> {
 }
 
 impl<T: Eq + Clone> OrderedSet<T> {
-    /// A set of clones of the elements under the same hashes, in their order, whose capacity is their number. It has an
-    /// index only where the list is too long to do without. Where memory is refused, also to the clone of an element,
-    /// nothing is made. Without elements no memory is needed. Required is that a clone of an element is equal to it.
+    /// A set of clones of the elements under the same hashes, in their order, so that the same elements are found in it.
+    /// Its capacity is their number, and it has an index exactly where it is longer than `UNINDEXED`. Where memory is
+    /// refused, also to the clone of an element, nothing is made. Without elements it is not refused. Required is that a
+    /// clone of an element is equal to it.
     pub fn clone(&self) -> Result<Self, AllocError>
         // A clone is equal to its element.
         requires { IsEqualClone T.eq T.is_clone }

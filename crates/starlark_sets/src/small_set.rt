@@ -1,6 +1,6 @@
 //! The set, a map whose every value is `()`. It alone sees that map.
 ghost use Rattle.starlark_small.specs.New.{IsBare, MakesEmptyFor};
-ghost use Rattle.std.specs.Prelude.{◌≡◌, ◌-◌, ◌≤◌, ◌==◌, length};
+ghost use Rattle.std.specs.Prelude.{◌≡◌, ◌-◌, ◌≤◌, ◌==◌, length, ◌<◌, ◌^◌};
 ghost use Rattle.starlark_small.specs.Memory.{Reserves};
 
 mod clone;
@@ -67,7 +67,8 @@ impl<T: Eq> SmallSet<T> {
     /// How many elements there are.
     #[inline]
     pub fn len(&self) -> usize
-        ensures { result ≡ length self.now.entries }
+        ensures len { result ≡ length self.now.entries }
+        ensures few { length self.now.entries < 2 ^ 63 }
     {
         self.map.len()
     }
@@ -89,8 +90,9 @@ impl<T: Eq> SmallSet<T> {
         self.map.capacity()
     }
 
-    /// Makes room for so many new elements, and the index where so many need one, as `SmallMap::reserve` does. Where
-    /// the room is there it asks for no memory and changes nothing. A refusal leaves elements and index.
+    /// Makes room for so many new elements, and an index where the length with them is above `UNINDEXED`. Where the room
+    /// is there it asks for no memory and changes nothing. A refusal leaves elements and index; the capacity may have
+    /// grown.
     pub fn reserve(&mut self, additional: usize) -> Result<(), AllocError>
         ensures reserves { Reserves additional self.old self.new result }
     {

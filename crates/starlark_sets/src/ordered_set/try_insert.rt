@@ -43,8 +43,8 @@ impl<T: Eq> OrderedSet<T> {
     pub fn try_insert(&mut self, value: T) -> Result<(), TryInsertError<'_, T>>
     where
         T: Hash,
-        ensures* set { sem 𝓛 (ordered_ends_so T.row T.PartialEq self.entry (Tries T.eq self.old (own_hashed T.hash_input value) result)) }
-        ensures answers { AnswersTry T.eq (own_hashed T.hash_input value) self.old result }
+        ensures* set { sem 𝓛 (ordered_ends_so T.row T.PartialEq self.entry (λ new. Tries T.eq self.old new (own_hashed T.hash_input value) result)) }
+        ensures answers { AnswersTry T.eq self.old (own_hashed T.hash_input value) result }
     {
         let tried = self.insert_new(value);
         told(self.frozen(), tried)
@@ -62,7 +62,7 @@ impl<T: Eq> OrderedSet<T> {
     fn insert_new(&mut self, value: T) -> Result<(), Refusal<T>>
     where
         T: Hash,
-        ensures set { Tries T.eq self.old (own_hashed T.hash_input value) result self.new }
+        ensures set { Tries T.eq self.old self.new (own_hashed T.hash_input value) result }
         ensures placed { IfErr result (IsPlaced self.new.entries (element_at self.old (match_of T.eq self.old.entries (own_hashed T.hash_input value))) value) }
         ensures within { IfErr result (IsWithin self.new.entries) }
     {

@@ -7,9 +7,10 @@ use super::SmallSet;
 use std::alloc::AllocError;
 
 impl<T: Eq + Clone> SmallSet<T> {
-    /// A set of clones of the elements under the same hashes, in their order, whose capacity is their number. It has an
-    /// index only where the list is too long to do without. Where memory is refused, also to the clone of an element,
-    /// nothing is made. Without elements no memory is needed. Required is that a clone of an element is equal to it.
+    /// A set of clones of the elements under the same hashes, in their order, so that the same elements are found in it.
+    /// Its capacity is their number, and it has an index exactly where it is longer than `UNINDEXED`. Where memory is
+    /// refused, also to the clone of an element, nothing is made. Without elements it is not refused. Required is that a
+    /// clone of an element is equal to it.
     pub fn clone(&self) -> Result<Self, AllocError>
         // A clone of an element is equal to it.
         requires { IsEqualClone T.eq T.is_clone }

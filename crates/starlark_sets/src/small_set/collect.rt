@@ -1,8 +1,11 @@
 //! `SmallSet`s from the items of iterators.
-ghost use Rattle.std.specs.Prelude.{◌≡◌, IfOk, IsOk};
+ghost use Rattle.std.specs.Prelude.{◌≡◌, ◌≤◌, ◌+◌, IfOk, IsOk, OnOk, is_some, length, true};
 ghost use Rattle.std.specs.Iterator.{IsFiniteIterable, size};
-ghost use Rattle.starlark_small.specs.Collect.{Collects};
-ghost use Rattle.starlark_sets.specs.Collect.{InsertsEach, IsSetOf, KeepsOwn, TakesInEach, element_entry};
+ghost use Rattle.starlark_hash.specs.declared.hash_value.StarlarkHashValue.{StarlarkHashValue};
+ghost use Rattle.starlark_hash.specs.Lookup.{found};
+ghost use Rattle.starlark_small.specs.Collect.{Collects, Extends, IsExtended};
+ghost use Rattle.starlark_small.specs.Lookup.{AreOwn, contains};
+ghost use Rattle.starlark_sets.specs.Collect.{HasEach, InsertsEach, IsSetOf, KeepsOwn, element_entry, own_element};
 
 use super::SmallSet;
 use starlark_hash::{Hashed, WithUnit};
@@ -17,14 +20,24 @@ impl<T: Eq + Hash + Drop> SmallSet<T> {
     /// insertions one after the other. The iterator must end.
     pub fn extend<I: IntoIterator<Item = T>>(&mut self, iter: I) -> Result<(), AllocError>
         requires { IsFiniteIterable I.into_iter_gives I.IntoIter.can_next I.IntoIter.remaining iter }
-        ensures { TakesInEach T.eq T.hash_input I.IntoIter.next_gives I.into_iter_gives I.IntoIter.remaining iter self.old self.new result }
+        // Done: the set has each of the items, and what it had.
+        ensures found { OnOk result (HasEach T.eq T.hash_input I.IntoIter.next_gives I.into_iter_gives iter (contains T.eq T.hash_input self.old) self.new) }
+        // Done or refused: the items were inserted, or those before a new one; what was there stays, under whatever hash.
+        ensures entries { Extends T.eq (own_element T.hash_input) I.IntoIter.next_gives I.into_iter_gives iter self.old.entries self.new.entries result }
+        ensures stays { (under : StarlarkHashValue) (element : T) → is_some (found (T.eq element) under self.old.entries) ≡ true → is_some (found (T.eq element) under self.new.entries) ≡ true }
+        ensures longer { length self.old.entries ≤ length self.new.entries }
+        ensures own { AreOwn T.hash_input self.old → AreOwn T.hash_input self.new }
+        // With room for all items no memory is asked for; each item uses up one at most.
+        ensures memory { IsExtended ((it : _) → I.into_iter_gives iter it → size (I.IntoIter.remaining it) ≤ self.old.room) self.old self.new result }
+        ensures left { (it : _) × I.into_iter_gives iter it × (self.old.room ≤ self.new.room + size (I.IntoIter.remaining it)) }
     {
         self.map.extend(WithUnit::new(iter.into_iter()))
     }
 
     /// A set of the items, inserted in their order, each under its own hash. It begins with room for the lower bound of
     /// the iterator's `size_hint`. Where memory is refused, nothing is made and the items are dropped. Capacity and
-    /// index are as `SmallMap::from_iter` makes them. Without items it is not refused. The iterator must end.
+    /// index are as `SmallMap::from_iter` makes them. Where the iterator bounds that it has no items, it is not refused.
+    /// The iterator must end.
     pub fn from_iter<I: IntoIterator<Item = T>>(alloc: Global, iter: I) -> Result<Self, AllocError>
         requires { IsFiniteIterable I.into_iter_gives I.IntoIter.can_next I.IntoIter.remaining iter }
         ensures made { IfOk result (IsSetOf T.eq T.hash_input I.IntoIter.next_gives I.into_iter_gives I.IntoIter.remaining iter) }
@@ -38,7 +51,8 @@ impl<T: Eq + Hash + Drop> SmallSet<T> {
 }
 
 impl<T: Eq + Drop> SmallSet<T> {
-    /// As `from_iter`, of elements that stand under hashes already.
+    /// A set of the items, inserted in their order, each under the hash that it came with. Room, memory and refusals are
+    /// those of `from_iter`.
     pub fn from_iter_hashed<I: IntoIterator<Item = Hashed<T>>>(
         alloc: Global,
         iter: I,

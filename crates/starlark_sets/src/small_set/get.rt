@@ -1,12 +1,11 @@
 //! What a `SmallSet` has: elements by hash, by equality under their own hash, and by index.
-ghost use Rattle.std.specs.Prelude.{◌≡◌, ◌-◌, length, slice_get, is_some};
 ghost use Rattle.std.specs.Option.{option_copied, option_map};
+ghost use Rattle.std.specs.Prelude.{◌≡◌, ◌-◌, IfSome, IsTrue, length, slice_get, is_some};
+ghost use Rattle.starlark_hash.specs.Entries.{entry_key};
 ghost use Rattle.starlark_hash.specs.HashValue.{hash_of, key_of};
-ghost use Rattle.starlark_hash.specs.Entries.{entry_key, position_of};
 ghost use Rattle.starlark_hash.specs.Hasher.{own_hash};
-ghost use Rattle.starlark_hash.specs.Lookup.{found};
-ghost use Rattle.starlark_small.specs.Lookup.{NamesIndex, TellsPresence};
-ghost use Rattle.starlark_sets.specs.Lookup.{ShowsElement};
+ghost use Rattle.starlark_hash.specs.Lookup.{found, found_key};
+ghost use Rattle.starlark_small.specs.Lookup.{HasKey, NamesIndex, contains, get_key};
 
 use super::SmallSet;
 use starlark_hash::{Equivalent, Hashed, Query};
@@ -16,16 +15,22 @@ impl<T: Eq> SmallSet<T> {
     /// The element under the query's own hash that the query stands for.
     #[inline(always)]
     pub fn get<Q: Query<T> + Hash>(&self, value: Q) -> Option<&T>
-        ensures { ShowsElement (Q.stands_for value) (own_hash Q.hash_input value) self.now result }
+        // The stored element that is found comes back, and the query stands for it.
+        ensures element { option_copied result ≡ get_key Q.stands_for Q.hash_input self.now value }
+        ensures there { is_some result ≡ contains Q.stands_for Q.hash_input self.now value }
+        ensures equivalent { IfSome result (λ element. IsTrue (Q.stands_for value element.now)) }
     {
         self.get_hashed(Hashed::new(value))
     }
 
     /// The element under this hash that the query stands for.
     #[inline(always)]
-    #[tactic(auto, using(crate::proofs::Lookups::lookups))]
+    #[tactic(auto, using(crate::proofs::Callers::lookups))]
     pub fn get_hashed<Q: Query<T>>(&self, value: Hashed<Q>) -> Option<&T>
-        ensures { ShowsElement (Q.stands_for (key_of value)) (hash_of value) self.now result }
+        // The stored element that is found comes back, and the query stands for it.
+        ensures element { option_copied result ≡ found_key (Q.stands_for (key_of value)) (hash_of value) self.now.entries }
+        ensures there { is_some result ≡ is_some (found (Q.stands_for (key_of value)) (hash_of value) self.now.entries) }
+        ensures equivalent { IfSome result (λ element. IsTrue (Q.stands_for (key_of value) element.now)) }
     {
         let (_, element, _) = self.map.get_full_hashed(value)?;
         Some(element)
@@ -61,7 +66,9 @@ impl<T: Eq> SmallSet<T> {
     /// Whether there is an element under the query's own hash that the query stands for.
     #[inline(always)]
     pub fn contains<Q: Query<T> + Hash>(&self, key: Q) -> bool
-        ensures { TellsPresence (Q.stands_for key) (own_hash Q.hash_input key) self.now result }
+        // Whether an element is found, and then the set has one that the query stands for.
+        ensures found { result ≡ contains Q.stands_for Q.hash_input self.now key }
+        ensures key { IsTrue result → HasKey (Q.stands_for key) self.now }
     {
         self.map.contains_key(key)
     }
@@ -69,8 +76,9 @@ impl<T: Eq> SmallSet<T> {
     /// Whether there is an element under this hash that the query stands for.
     #[inline(always)]
     pub fn contains_hashed<Q: Query<T>>(&self, key: Hashed<Q>) -> bool
-        ensures index { result ≡ is_some (position_of (hash_of key) (Q.stands_for (key_of key)) self.now.entries) }
+        // Whether an element is found, and then the set has one that the query stands for.
         ensures found { result ≡ is_some (found (Q.stands_for (key_of key)) (hash_of key) self.now.entries) }
+        ensures key { IsTrue result → HasKey (Q.stands_for (key_of key)) self.now }
     {
         self.map.contains_key_hashed(key)
     }

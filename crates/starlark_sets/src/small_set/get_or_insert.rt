@@ -21,8 +21,8 @@ impl<T: Eq> SmallSet<T> {
     pub fn get_or_insert(&mut self, value: T) -> Result<&T, NoRoom<T>>
     where
         T: Hash + Drop,
-        ensures* set { sem 𝓛 (ends_so T.row T.PartialEq self.entry (Adds T.eq self.old (own_hashed T.hash_input value) result)) }
-        ensures shows { ShowsPut T.eq (own_hashed T.hash_input value) value self.old result }
+        ensures* set { sem 𝓛 (ends_so T.row T.PartialEq self.entry (λ new. Adds T.eq self.old new (own_hashed T.hash_input value) result)) }
+        ensures shows { ShowsPut T.eq self.old (own_hashed T.hash_input value) result }
     {
         let index = self.index_or_push_own(value);
         shown(self.frozen(), index)
@@ -38,7 +38,7 @@ impl<T: Eq> SmallSet<T> {
     ) -> Result<&T, AllocError>
     where
         T: Drop,
-        ensures* set { sem 𝓛 (ends_so T.row T.PartialEq self.entry (PutsElementFor T.eq Q.stands_for Q.hash_input value self.old result)) }
+        ensures* set { sem 𝓛 (ends_so T.row T.PartialEq self.entry (λ new. PutsElementFor T.eq Q.stands_for Q.hash_input self.old new value result)) }
         ensures succeeds { Q.OwnedQuery.is_infallible value → 0 < self.old.room → IsOk result }
     {
         let index = self.index_or_push_for(value)?;
@@ -57,7 +57,7 @@ impl<T: Eq> SmallSet<T> {
     fn index_or_push(&mut self, element: Hashed<T>) -> Result<usize, NoRoom<Hashed<T>>>
     where
         T: Drop,
-        ensures answers { AnswersIndex T.eq element element self.old self.new result }
+        ensures answers { AnswersIndex T.eq self.old self.new element element result }
     {
         match self.map.get_index_of_hashed(element.as_ref()) {
             Some(index) => Ok(index),
@@ -72,7 +72,7 @@ impl<T: Eq> SmallSet<T> {
     fn index_or_push_own(&mut self, element: T) -> Result<usize, NoRoom<T>>
     where
         T: Hash + Drop,
-        ensures answers { AnswersIndex T.eq (own_hashed T.hash_input element) element self.old self.new result }
+        ensures answers { AnswersIndex T.eq self.old self.new (own_hashed T.hash_input element) element result }
     {
         match self.index_or_push(Hashed::new(element)) {
             Ok(index) => Ok(index),
@@ -86,7 +86,7 @@ impl<T: Eq> SmallSet<T> {
     fn index_or_push_for<Q: OwnedQuery<T> + Hash>(&mut self, query: Q) -> Result<usize, AllocError>
     where
         T: Drop,
-        ensures set { AddsAt Q.stands_for query (own_hash Q.hash_input query) self.old result self.new }
+        ensures set { AddsAt Q.stands_for (own_hash Q.hash_input query) self.old self.new query result }
         ensures within { IfOk result (λ i. i < length self.new.entries) }
         ensures succeeds { Q.OwnedQuery.is_infallible query → 0 < self.old.room → IsOk result }
     {

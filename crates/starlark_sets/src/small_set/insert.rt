@@ -1,27 +1,38 @@
 //! What puts elements into a `SmallSet`.
-ghost use Rattle.std.specs.Prelude.{◌≡◌, not, OnOk, Some, None, is_some};
-ghost use Rattle.starlark_small.specs.Map.{own_hashed};
-ghost use Rattle.starlark_sets.specs.Insert.{Adds, new_or_back};
-ghost use Rattle.starlark_hash.specs.Hasher.{own_hash};
+ghost use Rattle.std.specs.Hash.{HashWrites};
+ghost use Rattle.std.specs.Prelude.{◌≡◌, false, not, true, IfErr, IfOk, IsOk, OnErr, OnOk, Some, is_some};
 ghost use Rattle.starlark_hash.specs.HashValue.{hash_of, key_of};
-ghost use Rattle.starlark_hash.specs.Lookup.{found};
-ghost use Rattle.starlark_small.specs.Lookup.{Updates};
-ghost use Rattle.starlark_hash.specs.Entries.{match_of};
-ghost use Rattle.starlark_small.specs.Insert.{Inserts, PutsLast};
+ghost use Rattle.starlark_hash.specs.Hasher.{own_hash};
+ghost use Rattle.starlark_hash.specs.Lookup.{found, Writes};
+ghost use Rattle.starlark_small.specs.Insert.{Inserts, IsInserted, IsRefused, IsRefusedInsertion, LeavesMemory};
+ghost use Rattle.starlark_small.specs.Lookup.{AreOwn, Updates, contains};
+ghost use Rattle.starlark_small.specs.Map.{own_hashed};
 
 use super::SmallSet;
 use starlark_hash::{Hashed, NoRoom};
 use std::hash::Hash;
 
 impl<T: Eq> SmallSet<T> {
-    /// Inserts under the element's own hash, as `insert_hashed` does under one that is brought.
+    /// Inserts an element under its own hash, and returns whether it was new. An element that is there stays, and this one
+    /// is dropped; a new one is appended. Only a new element is refused, where there is no room and no memory is found.
     #[inline]
     pub fn insert(&mut self, key: T) -> Result<bool, NoRoom<T>>
     where
         T: Hash + Drop,
+        // Done: whether the element was lacking comes back. It is there now, and every other element is there if it was.
+        ensures is_new { IfOk result (λ is_new. is_new ≡ not (contains T.eq T.hash_input self.old key)) }
         ensures updates { OnOk result (Updates T.eq T.hash_input self.old self.new key (Some tt)) }
-        ensures inserts { Inserts T.eq (own_hashed T.hash_input key) tt key (λ was. not (is_some was)) self.old self.new result }
-        ensures set { Adds T.eq self.old (own_hashed T.hash_input key) result self.new }
+        // An element that was there changes nothing.
+        ensures there { contains T.eq T.hash_input self.old key ≡ true → IsOk result × (self.new ≡ self.old) }
+        // The list now: an element that is there keeps its index, and a new one is appended.
+        ensures inserts { OnOk result (Inserts T.eq self.old self.new (own_hashed T.hash_input key) tt) }
+        // Elements that are under their own hashes stay so, also where this one is refused.
+        ensures own { AreOwn T.hash_input self.old → AreOwn T.hash_input self.new }
+        // Refused: only a new element, only without room. It comes back, and elements and index are unchanged.
+        ensures refused { OnErr result (IsRefusedInsertion T.eq self.old self.new (own_hashed T.hash_input key)) }
+        ensures handed_back { IfErr result (λ refused. refused.0 ≡ key) }
+        // Done or refused: no room is lost, and with room to spare no memory is asked for.
+        ensures memory { LeavesMemory T.eq self.old self.new (own_hashed T.hash_input key) }
     {
         match self.insert_hashed(Hashed::new(key)) {
             Ok(is_new) => Ok(is_new),
@@ -29,28 +40,49 @@ impl<T: Eq> SmallSet<T> {
         }
     }
 
-    /// Inserts under this hash, and answers whether the element was new. One that is there changes nothing, and the
-    /// stored element stays; a new one goes last. Only a new one is refused, where there is no room and no memory is
-    /// found: it comes back, and elements and index stay. Capacity, room and index are left as
-    /// `SmallMap::insert_hashed` leaves them.
+    /// Inserts an element under a precomputed hash, and returns whether it was new. An element that is there stays, and
+    /// this one is dropped; a new one is appended. Only a new element is refused, where there is no room and no memory is
+    /// found. Capacity, room and index are left as `SmallMap::insert_hashed` leaves them.
+    #[tactic(auto, using(crate::proofs::Additions::additions))]
     pub fn insert_hashed(&mut self, key: Hashed<T>) -> Result<bool, NoRoom<Hashed<T>>>
     where
         T: Drop,
-        ensures inserts { Inserts T.eq key tt key (λ was. not (is_some was)) self.old self.new result }
-        ensures set { Adds T.eq self.old key result self.new }
+        // Done: whether the element was lacking comes back. It is there now, and every other element is there if it was.
+        ensures is_new { IfOk result (λ is_new. is_new ≡ not (is_some (found (T.eq (key_of key)) (hash_of key) self.old.entries))) }
+        ensures updates { OnOk result (Writes T.eq (T.eq (key_of key)) (hash_of key) self.old.entries self.new.entries (Some tt)) }
+        // An element that was there changes nothing.
+        ensures there { is_some (found (T.eq (key_of key)) (hash_of key) self.old.entries) ≡ true → IsOk result × (self.new ≡ self.old) }
+        // The list now: an element that is there keeps its index, and a new one is appended.
+        ensures inserts { OnOk result (Inserts T.eq self.old self.new key tt) }
+        // Elements that are under their own hashes stay so, also where this one is refused.
+        ensures own { (feeds : T → HashWrites) → hash_of key ≡ own_hash feeds (key_of key) → AreOwn feeds self.old → AreOwn feeds self.new }
+        // Refused: only a new element, only without room. It comes back, and elements and index are unchanged.
+        ensures refused { OnErr result (IsRefusedInsertion T.eq self.old self.new key) }
+        ensures handed_back { IfErr result (λ refused. refused.0 ≡ key) }
+        // Done or refused: no room is lost, and with room to spare no memory is asked for.
+        ensures memory { LeavesMemory T.eq self.old self.new key }
     {
-        answered(self.map.insert_hashed(key, ()))
+        match self.map.insert_hashed(key, ()) {
+            Ok(old) => Ok(old.is_none()),
+            Err(NoRoom((element, ()))) => Err(NoRoom(element)),
+        }
     }
 
-    /// Inserts a new element under its own hash, as `insert_hashed_unique_unchecked` does under one that is brought.
-    #[tactic(auto, using(starlark_small::proofs::CallerInsert::handed_on))]
+    /// Appends a new element under its own hash, without a look-up. It is refused where there is no room and no memory is
+    /// found.
     pub fn insert_unique_unchecked(&mut self, key: T) -> Result<(), NoRoom<T>>
     where
         T: Hash,
-        requires { match_of T.eq self.old.entries (own_hashed T.hash_input key) ≡ None }
-        ensures puts_last { PutsLast (own_hashed T.hash_input key) tt key self.old self.new result }
-        ensures inserts { Inserts T.eq (own_hashed T.hash_input key) tt key (λ _. tt) self.old self.new result }
-        ensures lacking { found (T.eq key) (own_hash T.hash_input key) self.old.entries ≡ None }
+        requires { contains T.eq T.hash_input self.old key ≡ false }
+        // Done: the element is the last, it is there now, and every other element is there if it was.
+        ensures inserted { OnOk result (IsInserted self.old self.new (own_hashed T.hash_input key) tt) }
+        ensures updates { OnOk result (Updates T.eq T.hash_input self.old self.new key (Some tt)) }
+        // Elements that are under their own hashes stay so, also where this one is refused.
+        ensures own { AreOwn T.hash_input self.old → AreOwn T.hash_input self.new }
+        // Refused: only without room. The element comes back, and elements and index are unchanged.
+        ensures refused { OnErr result (IsRefused self.old self.new) }
+        ensures full { OnErr result (self.old.room ≡ 0) }
+        ensures handed_back { IfErr result (λ refused. refused.0 ≡ key) }
     {
         match self.map.push_own(key, ()) {
             Ok(_index) => Ok(()),
@@ -58,31 +90,26 @@ impl<T: Eq> SmallSet<T> {
         }
     }
 
-    /// Inserts an element that is new under this hash, which is required and not looked for. It goes last. It is
-    /// refused where there is no room and no memory is found: then it comes back, and elements and index stay.
-    #[tactic(auto, using(starlark_small::proofs::CallerInsert::handed_on))]
+    /// Appends an element that is new under a precomputed hash, without a look-up. It is refused where there is no room and
+    /// no memory is found.
     pub fn insert_hashed_unique_unchecked(
         &mut self,
         key: Hashed<T>,
     ) -> Result<(), NoRoom<Hashed<T>>>
-        requires { match_of T.eq self.old.entries key ≡ None }
-        ensures puts_last { PutsLast key tt key self.old self.new result }
-        ensures inserts { Inserts T.eq key tt key (λ _. tt) self.old self.new result }
-        ensures lacking { found (T.eq (key_of key)) (hash_of key) self.old.entries ≡ None }
+        requires { is_some (found (T.eq (key_of key)) (hash_of key) self.old.entries) ≡ false }
+        // Done: the element is the last, it is there now, and every other element is there if it was.
+        ensures inserted { OnOk result (IsInserted self.old self.new key tt) }
+        ensures updates { OnOk result (Writes T.eq (T.eq (key_of key)) (hash_of key) self.old.entries self.new.entries (Some tt)) }
+        // Elements that are under their own hashes stay so, also where this one is refused.
+        ensures own { (feeds : T → HashWrites) → hash_of key ≡ own_hash feeds (key_of key) → AreOwn feeds self.old → AreOwn feeds self.new }
+        // Refused: only without room. The element comes back, and elements and index are unchanged.
+        ensures refused { OnErr result (IsRefused self.old self.new) }
+        ensures full { OnErr result (self.old.room ≡ 0) }
+        ensures handed_back { IfErr result (λ refused. refused.0 ≡ key) }
     {
         match self.map.push(key, ()) {
             Ok(_index) => Ok(()),
             Err(NoRoom((element, ()))) => Err(NoRoom(element)),
         }
-    }
-}
-
-// What a set answers where its map answered this.
-fn answered<X>(answer: Result<Option<()>, NoRoom<(X, ())>>) -> Result<bool, NoRoom<X>>
-    ensures { result ≡ new_or_back answer }
-{
-    match answer {
-        Ok(old) => Ok(old.is_none()),
-        Err(NoRoom((element, ()))) => Err(NoRoom(element)),
     }
 }

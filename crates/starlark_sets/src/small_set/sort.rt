@@ -11,12 +11,12 @@ impl<T: Eq> SmallSet<T> {
     pub fn sort(&mut self) -> Result<(), AllocError>
     where
         T: Ord,
-        ensures { SortsByKey T.eq T.cmp result self.old self.new }
+        ensures { SortsByKey T.eq T.cmp self.old self.new result }
     {
         self.map.sort_keys()
     }
 
-    /// Turns the order of the elements round. Capacity and index stay.
+    /// Turns the order of the elements round: each is found as before. Capacity and index stay.
     pub fn reverse(&mut self)
         ensures { Turns T.eq self.old self.new }
     {

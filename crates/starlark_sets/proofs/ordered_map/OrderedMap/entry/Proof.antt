@@ -31,7 +31,7 @@ entry_spec 𝓤 𝓛 𝓜 𝓡 wired K V LK LV E dE Q dQ G dG dD is_eq is_partia
     let Walk : Contract 𝓤 = walk_of 𝓛 En hs c in let y : Walk.Ghost = ((κs, qs, bounds, a, (mut_vals r, (k ∷ [], tt))), given.1) in
     let lft : NamedLft = named_lft 3 0 tt κs in let Ref : RattleType = MutRef (named 0) κs.0 Inner in let Out : RattleType = R.the_row lft K' V' Q in
     let LivesK : Type 0 = κs.1.0 ⊑ K.lives in let LivesV : Type 0 = κs.1.1.0 ⊑ V.lives in let tokens : Item 𝓤 = raw (toks 𝓛 3 κs qs) in
-    let Says : Rep → Entry K.Denot V.Denot Q → Type 0 = λ n p. IsEntered Q.eq (own_hashed G.hash_input key) n p in
+    let Says : Rep → Entry K.Denot V.Denot Q → Type 0 = λ n p. IsEntered Q.eq n (own_hashed G.hash_input key) p in
     subst (λ (us : List Val × (List Val × Unit {0})). ent 𝓤 (Walk.pre ((κs, qs, bounds, a, us), given.1)) (WpFn 𝓤 H 𝓣.C 𝓣.Λ fn (Walk.args ((κs, qs, bounds, a, us), given.1)) (Walk.post ((κs, qs, bounds, a, us), given.1))))
     (sym (λ j. (self_is j, (one.1 j, tt)))) (
     qed 𝓛 ((tokens ⊛ ‵ (owns (types_at En.signature.params κs) a y.0.4)) ∷ raw (fact 𝓤 LivesK) ∷ raw (fact 𝓤 LivesV) ∷ ‵ ftrue ∷ []) ∵

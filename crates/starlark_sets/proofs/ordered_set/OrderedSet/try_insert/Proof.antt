@@ -39,11 +39,11 @@ words T L P G =
       index_laws = result_laws unit (N.the_row T') none_laws (refusal_laws.the_row_laws T' LT);
       out_laws = λ κs. result_laws unit (Error κs) none_laws (error_laws.the_row_laws (named_lft 2 0 tt κs) T' LT);
       lands = λ κs v good. good;
-      Puts = λ old value tried new. Tries eq old (under value) tried new × Placed eq G.hash_input old value tried new × IfErr tried (IsWithin new.entries);
+      Puts = λ old value tried new. Tries eq old new (under value) tried × Placed eq G.hash_input old value tried new × IfErr tried (IsWithin new.entries);
       Within = λ new tried. IfErr tried (IsWithin new.entries);
       Shows = λ κs new tried y. IsTold new.entries tried y;
-      Ends = λ κs old value y new. Tries eq old (under value) y new;
-      Tells = λ κs old value y. AnswersTry eq (under value) old y;
+      Ends = λ κs old value y new. Tries eq old new (under value) y;
+      Tells = λ κs old value y. AnswersTry eq old (under value) y;
       within = λ old value tried new put. put.2;
       ends = λ κs old value tried new y put told. grind (arith, told, put.0);
       tells = λ κs old value tried new y put told. answers-try eq (under value) old new y (grind (arith, told, put.0)) (grind (arith, told, put.1));
@@ -52,9 +52,9 @@ words T L P G =
 pub try_insert_spec : {M : Type 1} → routine.Statement.statement M
 try_insert_spec 𝓤 𝓛 𝓜 𝓡 wired T L E dE P dP G dG is_eq is_partial is_hash =
     let eq = P.eq in let under = own_hashed G.hash_input in let W = words T L P G in
-    meets W 𝓛 (λ old value tried new. sep 𝓤 (fact 𝓤 (Tries eq old (under value) tried new)) (sep 𝓤 (fact 𝓤 (Placed eq G.hash_input old value tried new)) (fact 𝓤 (W.Within new tried)))) 𝓜 𝓡
+    meets W 𝓛 (λ old value tried new. sep 𝓤 (fact 𝓤 (Tries eq old new (under value) tried)) (sep 𝓤 (fact 𝓤 (Placed eq G.hash_input old value tried new)) (fact 𝓤 (W.Within new tried)))) 𝓜 𝓡
     (λ old value tried new.
-    let Tried = Tries eq old (under value) tried new in let Known = Placed eq G.hash_input old value tried new in
+    let Tried = Tries eq old new (under value) tried in let Known = Placed eq G.hash_input old value tried new in
     qed 𝓛 ((raw (fact 𝓤 Tried) ⊛ raw (fact 𝓤 Known) ⊛ raw (fact 𝓤 (W.Within new tried))) ∷ []) ∵
     split3 ! $ heard ! Tried (λ a. heard ! Known (λ b. heard ! (W.Within new tried) (λ c. tells ! (W.Puts old value tried new) (a, b, c) $ done !)))) _ _
     (F.Key.name (bounded (a_type ∷ []) (T, tt) (dcons dE (dcons dP (dcons dG dnil))))) (routine.Code.unfolded 𝓤 𝓛.H 𝓜 𝓡 wired (T, tt) dE dP dG)

@@ -13,6 +13,8 @@ returns g c =
     rw (← c.self.view_is) (record {
       found = has_extended g.met.T.Eq.laws g.T.Hash.hash_input g.met.T.Hash.respects_eq c.extend.result old new extends;
       entries = extends;
+      stays = takes.stays;
+      longer = takes.longer;
       memory = extended_where _ _ old new c.extend.result (λ fits it is. fits it (subst (g.I.IntoIterator.into_iter_gives c.args.iter) (sym is) made)) takes.memory;
       left = (takes.left.0, subst (g.I.IntoIterator.into_iter_gives c.args.iter) (sym takes.left.1) made, takes.left.2);
       own = takes.own;

@@ -32,21 +32,21 @@ words T L P laws G =
       index_laws = result_laws usize Back (of_field usize-field usize-laws refl (copy_shared usize-field usize-copy)) LB;
       out_laws = λ κs. result_laws (ShrRef (named 0) κs.0 T') Back (shr_laws κs.0 T' LT) LB;
       lands = λ κs v good. good;
-      Puts = λ old value index new. AnswersIndex eq (under value) value old new index;
+      Puts = λ old value index new. AnswersIndex eq old new (under value) value index;
       Within = λ new index. IfOk index (λ i. i < length new.entries);
       Shows = λ κs new index y. IsShown new.entries index y;
-      Ends = λ κs old value y new. Adds eq old (under value) y new;
-      Tells = λ κs old value y. ShowsPut eq (under value) value old y;
+      Ends = λ κs old value y new. Adds eq old new (under value) y;
+      Tells = λ κs old value y. ShowsPut eq old (under value) y;
       within = λ old value index new answers. answers.within;
       ends = λ κs old value index new y answers told. grind (arith, told, answers.set);
-      tells = λ κs old value index new y answers told. shows-put eq laws (under value) old value y
-          (grind (arith, told, answers.element)) (absent-added eq old new (under value) y (grind (arith, told, answers.set))) (grind (arith, told, answers.handed_back));
+      tells = λ κs old value index new y answers told. shows-put eq laws (under value) old y
+          (grind (arith, told, answers.stored)) (absent-added eq old new (under value) y (grind (arith, told, answers.set))) (grind (arith, told, answers.handed_back));
     }
 
 pub get_or_insert_spec : {M : Type 1} → routine.Statement.statement M
 get_or_insert_spec 𝓤 𝓛 𝓜 𝓡 wired T L E dE P dP G dG dD is_eq is_partial is_hash drops =
     let eq = P.eq in let under = own_hashed G.hash_input in
-    meets (words T L P is_eq.laws G) 𝓛 (λ old value index new. fact 𝓤 (AnswersIndex eq (under value) value old new index)) 𝓜 𝓡 (λ old value index new. id⊢ 𝓤 _) _ _
+    meets (words T L P is_eq.laws G) 𝓛 (λ old value index new. fact 𝓤 (AnswersIndex eq old new (under value) value index)) 𝓜 𝓡 (λ old value index new. id⊢ 𝓤 _) _ _
     (F.Key.name (bounded (a_type ∷ []) (T, tt) (dcons dE (dcons dP (dcons dG (dcons dD dnil)))))) (routine.Code.unfolded 𝓤 𝓛.H 𝓜 𝓡 wired (T, tt) dE dP dG dD)
     (put.met 𝓤 𝓛 𝓜 𝓡 (routine.Code.calls-starlark_sets::small_set::SmallSet::index_or_push_own 𝓡.env wired) T L E dE P dP G dG dD is_eq is_partial is_hash drops)
     (freeze.met 𝓤 𝓛 𝓜 𝓡 (routine.Code.calls-starlark_sets::small_set::SmallSet::frozen 𝓡.env wired) T L E dE P dP is_eq is_partial)
