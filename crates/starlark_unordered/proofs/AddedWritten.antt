@@ -1,10 +1,10 @@
 -- A pair that was put in, once its value was written.
-use Rattle.starlark_hash.proofs.Common.{◌≡◌, ℕ, Bool, cond, List, [], ◌∷◌, map, Some, None, refl, arith, IsPermutation, Result, Ok, Err, IfOk, MutBor, IsEquivalence, lookup, length-map, length_permutation, IsPermutation-map, sum_by-IsPermutation, common_steps, count_by, map-append}
+use Rattle.starlark_hash.proofs.Common.{◌≡◌, ℕ, Bool, cond, List, [], ◌∷◌, map, Some, None, refl, arith, IsPermutation, Result, Ok, Err, IfErr, IfOk, MutBor, OnErr, OnOk, IsEquivalence, length-map, length_permutation, IsPermutation-map, sum_by-IsPermutation, common_steps, count_by, map-append}
 use Rattle.starlark_hash.specs.declared.no_room.NoRoom.{NoRoom}
-use Rattle.starlark_table.specs.Table.{Table, item_in, members, table_len}
+use Rattle.starlark_table.specs.Table.{Table, GrowsAsNeeded, item_in, members, table_len}
 use Rattle.starlark_table.proofs.TableLemmas.{grows-alike}
-use Rattle.starlark_unordered.specs.Insert.{Adds}
-use Rattle.starlark_unordered.specs.Pairs.{pairs_of, with_value}
+use Rattle.starlark_unordered.specs.Insert.{AddsPair, IsRefusedPair}
+use Rattle.starlark_unordered.specs.Pairs.{found, pairs_of, with_value}
 use Rattle.starlark_unordered.specs.RawEntry.{IsInPlace}
 use Rattle.starlark_unordered.specs.Lend.{IsAdded, PutsPair}
 use Rattle.starlark_unordered.proofs.Lists.{none_counted}
@@ -20,7 +20,7 @@ module _ {K V : Type 0} (t : K → Bool) (w : V) where
   unchanged [] none = refl
   unchanged (p ∷ ps) none = grind (arith, common_steps, unchanged ps)
 
-module _ {K V : Type 0} (eq : K → K → Bool) (laws : IsEquivalence eq) (old : Table (K × V)) (key : K) (value : V) (absent : lookup (eq key) (pairs_of old) ≡ None) where
+module _ {K V : Type 0} (eq : K → K → Bool) (laws : IsEquivalence eq) (old : Table (K × V)) (key : K) (value : V) (absent : found (eq key) (pairs_of old) ≡ None) where
   rewritten_pairs : (w : V) (new now : List (K × V)) → IsPermutation ((key, value) ∷ pairs_of old) new → IsInPlace (key, value) (key, w) new now → IsPermutation ((key, w) ∷ pairs_of old) now
   rewritten_pairs w new now moves (before, after, was, is) =
       let none = none_counted (eq key) (pairs_of old) absent in
@@ -41,8 +41,9 @@ module _ {K V : Type 0} (eq : K → K → Bool) (laws : IsEquivalence eq) (old :
 
 -- what was added stands in the slot that is answered
 pub puts_pair : {K V B : Type 0} (eq : K → K → Bool) (laws : IsEquivalence eq) (lent held : MutBor (Table (K × V))) (key : K) (value : V) (back : B) (r : Result ℕ (NoRoom B))
-    → lookup (eq key) (pairs_of lent.now) ≡ None → held.ghost_name ≡ lent.ghost_name → IfOk r (λ slot. item_in held.now slot ≡ Some (key, value)) → Adds eq lent.now held.now key value back r → PutsPair lent held key value back r
-puts_pair {V = V} eq laws lent held key value back (Ok slot) absent same there adds =
-    let added : IsAdded lent.now key value held.now = record { pairs = adds.pairs; room = adds.room } in
-    assumption (adds, added, λ (w : V). added_written eq laws lent.now key value absent held.now slot w there added)
-puts_pair eq laws lent held key value back (Err e) absent same there adds = assumption adds
+    → found (eq key) (pairs_of lent.now) ≡ None → held.ghost_name ≡ lent.ghost_name → IfOk r (λ slot. item_in held.now slot ≡ Some (key, value)) → OnOk r (AddsPair eq lent.now held.now key value) → OnErr r (IsRefusedPair eq lent.now held.now key)
+    → IfErr r (λ refused. refused.0 ≡ back) → GrowsAsNeeded lent.now held.now → PutsPair lent held key value back r
+puts_pair {V = V} eq laws lent held key value back (Ok slot) absent same there adds refused handed_back memory =
+    let added : IsAdded lent.now key value held.now = record { pairs = adds.pairs; room = memory } in
+    assumption (added, λ (w : V). added_written eq laws lent.now key value absent held.now slot w there added)
+puts_pair eq laws lent held key value back (Err e) absent same there adds refused handed_back memory = assumption refused

@@ -1,7 +1,7 @@
 -- A call of a raw vacant entry that puts a pair in and lends it, at any types: one call takes the entry and answers the map with
 -- the slot, the next lends the pair there. A key is passed as a `Key`, in which key_of finds it, and nameless is the type of what
 -- is handed back as a call passes it, without its names. Assumes `Logic`.
-use Rattle.starlark_columns.proofs.Walking.{◌≡◌, refl, sym, ap, subst, ℕ, List, [], ◌∷◌, Ura, Fn, Dict, Ty, named, Val, SProp, ent, id⊢, ex_e, snd∗, sep, Lft, GName, Share, ftrue, flft, WpFn, Logic, sem, ◌⊑◌, ⊑_trans, fact, tables, ‵, raw, ◌⊛◌, some, later, ◌$◌, ◌∵◌, !, qed, by, move, drop, use1, use2, split, split3, join, pick, fjoin, await, rewrite, group, of_opd, and_then, no_more, returns, enter, alloc_all, pass_all, free_all, look_at, get, sets, lands_as, Last, left, blank, T, no, rest, yes, RattleType, follows_so, arg, layout, Laws, param, param_laws, Bor, MutBor, MutRef, ShrRef, usize, plain, nothing, heard, peeks, Tuple, tuple_laws, calls_at, Clauses, Ended, Lasts, closing, ensured, lasts, Meets, triple_of, Contract, Triple, framed, walk_of, Goes-blank, proved_at, leaves, Result, IfOk, OnOk, OnErr, true, is_some, name_if_ok, shows, result_laws, tells, spent, drops}
+use Rattle.starlark_columns.proofs.Walking.{◌≡◌, refl, sym, ap, subst, ℕ, List, [], ◌∷◌, Ura, Fn, Dict, Ty, named, Val, SProp, ent, id⊢, ex_e, snd∗, sep, Lft, GName, Share, ftrue, flft, WpFn, Logic, sem, ◌⊑◌, ⊑_trans, fact, tables, ‵, raw, ◌⊛◌, some, later, ◌$◌, ◌∵◌, !, qed, by, move, drop, use1, use2, split, split3, join, pick, fjoin, await, rewrite, group, of_opd, and_then, no_more, returns, enter, alloc_all, pass_all, free_all, look_at, get, sets, lands_as, Last, left, blank, T, no, rest, yes, RattleType, follows_so, arg, layout, Laws, param, param_laws, Bor, MutBor, MutRef, ShrRef, usize, plain, nothing, heard, peeks, Tuple, tuple_laws, calls_at, Clauses, Ended, Lasts, closing, ensured, lasts, Meets, triple_of, Contract, Triple, framed, walk_of, Goes-blank, proved_at, leaves, Result, IfErr, IfOk, OnOk, OnErr, true, is_some, name_if_ok, shows, result_laws, tells, spent, drops}
 use Rattle.starlark_hash.proofs.Common.{IfOk-weaker, Some, ◌∙◌, true≢false, Ok, Err}
 use contract.Running.{Running, MachineTables}
 use denote.Signature.{Slot}
@@ -9,7 +9,7 @@ use denote.Triple.Entry.{on_entry}
 use mir.Syntax.{Callee, Lifetime, erased, local, value_local, place, assign, rv_opd, copy, seq, call, return}
 use prog.Model.{Model}
 use prog.Wp.{Closed}
-use Rattle.starlark_unordered.specs.Lend.{HashMembers, lends_placed, lends_added, IsAdded, LendsPair, LendsSlot, PutsPair}
+use Rattle.starlark_unordered.specs.Lend.{HashMembers, lends_placed, lends_added, IsAdded, LendsSlot, PutsPair}
 use Rattle.starlark_unordered.specs.contracts.raw_entry.RawVacantEntryMut as Vacant
 use Rattle.starlark_unordered.proofs.raw_entry.RawVacantEntryMut.TheLaws as vacant_laws
 use Rattle.starlark_unordered.specs.contracts.raw_entry.lend_placed as e
@@ -19,11 +19,12 @@ use Rattle.std.proofs.lemmas.Option.{some_pair_parts}
 
 module _ {K V B : Type 0} (s held : MutBor (Table (K × V))) (key : K) (value : V) (back : B) where
   -- what is lent of the slot is lent of the pair that was put in, whatever is left in its place
-  lends_pair : (placed : Result ℕ (NoRoom B)) (lent : Result (Bor K × MutBor V) (NoRoom B)) → PutsPair s held key value back placed → LendsSlot held.now placed lent → LendsPair s.now key value back lent
+  lends_pair : (placed : Result ℕ (NoRoom B)) (lent : Result (Bor K × MutBor V) (NoRoom B)) → PutsPair s held key value back placed → LendsSlot held.now placed lent
+      → IfOk lent (λ p. (p.0.now ≡ key) × (p.1.now ≡ value)) × OnErr lent (s.now.room ≡ 0) × IfErr lent (λ refused. refused.0 ≡ back)
       × ((w : V) (last : Table (K × V)) → IfOk placed (λ i. last ≡ with_value held.now i w) → OnOk lent (IsAdded s.now key w last)) × ((last : Table (K × V)) → OnErr lent (last ≡ held.now) → OnErr lent (last ≡ s.now))
-  lends_pair (Ok i) (Ok z) put lends = (record { pair = some_pair_parts z.0.now key z.1.now value (sym lends.shown ∙ put.placed); full = tt; handed_back = tt }, (λ w last is. rw is (put.written w)), λ last is. tt)
+  lends_pair (Ok i) (Ok z) put lends = (some_pair_parts z.0.now key z.1.now value (sym lends.shown ∙ put.placed), tt, tt, (λ w last is. rw is (put.written w)), λ last is. tt)
   lends_pair (Ok i) (Err e) put lends = absurd (true≢false (sym lends.refusal))
-  lends_pair (Err e) lent put lends = rw lends.refusal (record { pair = tt; full = put.full; handed_back = put.handed_back }, (λ w last is. tt), λ last is. is ∙ put.unchanged)
+  lends_pair (Err e) lent put lends = rw lends.refusal (tt, put.full, put.handed_back, (λ w last is. tt), λ last is. is ∙ put.unchanged)
 
 -- what is handed back
 abbrev pub Handed : RattleType → RattleType → RattleType
@@ -94,7 +95,7 @@ module _ (K V Key : RattleType) (nameless : Ty) (key_of : Key.Denot → K.Denot)
     spec κs a = record {
       ghost = Unit {0};
       requires = λ _. sep 𝓤 (fact 𝓤 (κs.1.0 ⊑ K.lives)) (sep 𝓤 (fact 𝓤 (κs.1.1.0 ⊑ V.lives)) (Asked a.0.map.now a.1.0));
-      ensures = λ _ x end. sep 𝓤 (sem 𝓛 (lends_added (param 0 K) (param 1 V) (record { eq = P.eq; hash_input = G.hash_input }) a.0.map (key_of a.1.0) x)) (fact 𝓤 (LendsPair a.0.map.now (key_of a.1.0) a.1.1.0 (a.1.0, a.1.1.0) x));
+      ensures = λ _ x end. sep 𝓤 (sem 𝓛 (lends_added (param 0 K) (param 1 V) (record { eq = P.eq; hash_input = G.hash_input }) a.0.map (key_of a.1.0) x)) (sep 𝓤 (fact 𝓤 (IfOk x (λ p. (p.0.now ≡ key_of a.1.0) × (p.1.now ≡ a.1.1.0)))) (sep 𝓤 (fact 𝓤 (OnErr x (a.0.map.now.room ≡ 0))) (fact 𝓤 (IfErr x (λ refused. refused.0 ≡ (a.1.0, a.1.1.0))))));
     }
 
     abbrev pub Lends : Contract 𝓤
@@ -150,6 +151,6 @@ module _ (K V Key : RattleType) (nameless : Ty) (key_of : Key.Denot → K.Denot)
           -- [what the map follows; the tokens; the result]
           rewrite ! 0 (λ (δ : GName). ‵ (follows_so R V' δ name (λ w n. IfOk g.1 (λ i. n ≡ with_value g.0.now i w)) (λ n. OnErr x (n ≡ g.0.now)))) put.same_map refl $
           use1 𝓛 (‵ (lends_added K' V' members s.map by_key x))
-          (so_weakens 𝓛 R V' γ name (λ w n. IfOk g.1 (λ i. n ≡ with_value g.0.now i w)) (λ w n. OnOk x (IsAdded m by_key w n)) (λ n. OnErr x (n ≡ g.0.now)) (λ n. OnErr x (n ≡ m)) as_pair.1 as_pair.2) $
-          tells ! (LendsPair m by_key value (key, value) x) as_pair.0 $ move ! (1 ∷ 0 ∷ []) $ join ! $ spent ! 3 $ move ! (2 ∷ 0 ∷ 3 ∷ 1 ∷ []) $
+          (so_weakens 𝓛 R V' γ name (λ w n. IfOk g.1 (λ i. n ≡ with_value g.0.now i w)) (λ w n. OnOk x (IsAdded m by_key w n)) (λ n. OnErr x (n ≡ g.0.now)) (λ n. OnErr x (n ≡ m)) as_pair.3 as_pair.4) $
+          tells ! (IfErr x (λ refused. refused.0 ≡ (key, value))) as_pair.2 $ tells ! (OnErr x (m.room ≡ 0)) as_pair.1 $ tells ! (IfOk x (λ p. (p.0.now ≡ by_key) × (p.1.now ≡ value))) as_pair.0 $ group ! 3 $ move ! (1 ∷ 0 ∷ []) $ join ! $ spent ! 3 $ move ! (2 ∷ 0 ∷ 3 ∷ 1 ∷ []) $
           by ! (leaves 𝓛 ended hs spec z t x (rest ((Entry (named 0) κ).exit no) s, (rest (Key.exit no) key, (rest (V'.exit no) value, tt))) (tt, (tt, (tt, tt))))))))))))))))))

@@ -1,6 +1,6 @@
 -- A search of the items of a hash, as a search of their keys.
 use Rattle.starlark_hash.proofs.Common.{◌≡◌, ℕ, suc, ◌+◌, ◌<◌, ◌^◌, Bool, true, false, nat_eq, List, [], ◌∷◌, ◌++◌, map, Option, Some, None, refl, ap, sym, subst, arith, Bor, Mut, CalledAt, TakesAt, All, Contains, enumerate_from, HashWrites, All-tail, IsPermutation-map, IsPermutation-sym, Contains-permutation, none-some, same_Some, IfSome, map-append, nat_tests, All-head, filter, is_some}
-use Rattle.starlark_hash.specs.Hasher.{own_hash}
+use Rattle.starlark_hash.specs.Hasher.{hash_of_writes, own_hash}
 use Rattle.starlark_hash.specs.HashValue.{hash_number, promoted}
 use Rattle.starlark_hash.specs.declared.hash_value.StarlarkHashValue.{StarlarkHashValue}
 use Rattle.starlark_hash.proofs.Promote.{promoted-injective}
@@ -14,11 +14,16 @@ use Rattle.starlark_table.proofs.TableLemmas.{member_at-items_under}
 abbrev pub named_keys : {K V : Type 0} → List (ℕ × (K × V)) → List (ℕ × K)
 named_keys ps = map (λ s. (s.0, s.1.0)) ps
 
--- where each key stands under its own hash, the keys of a hash are those that have it
+-- an own hash has 32 bits
+own-fits : (writes : HashWrites) → hash_number (hash_of_writes writes) < 2 ^ 32
+unfolding hash_of_writes
+own-fits writes = omega arith
+
+-- where each key is stored under its own hash, the keys of a hash are those that have it
 module _ {K : Type 0} (feeds : K → HashWrites) (hash : StarlarkHashValue) (fits : hash_number hash < 2 ^ 32) where
   -- two own hashes are promoted alike only where they are the same
   pub same_test : (key : K) (h : ℕ) → h ≡ home_of feeds key → nat_eq h (promoted (hash_number hash)) ≡ has_own_hash feeds hash key
-  same_test key h own = grind (arith, nat_tests, own, promoted-injective (hash_number (own_hash feeds key)) (hash_number hash) (omega arith) fits)
+  same_test key h own = grind (arith, nat_tests, own, promoted-injective (hash_number (own_hash feeds key)) (hash_number hash) (own-fits (feeds key)) fits)
 
 module _ {K V : Type 0} (feeds : K → HashWrites) (hash : StarlarkHashValue) (fits : hash_number hash < 2 ^ 32) where
   named-holders : (n : ℕ) (slots : List (Option (ℕ × (K × V)))) → All (λ p. p.0 ≡ home_of feeds p.1) (keyed (filled slots))

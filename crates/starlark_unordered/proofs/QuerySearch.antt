@@ -1,11 +1,11 @@
 -- What a search by a query answers, under its own hash or under one that is brought: the slot of the key, and its item.
-use Rattle.starlark_hash.proofs.Common.{◌≡◌, ℕ, ◌<◌, ◌^◌, Bool, true, Option, Some, None, sym, ap, ◌∙◌, Bor, Mut, IsEquivalence, HashWrites, lookup, IsKeyTest, option_and_then, option_map, arith, nat_tests, and_parts}
+use Rattle.starlark_hash.proofs.Common.{◌≡◌, ℕ, ◌<◌, ◌^◌, Bool, true, Option, Some, None, sym, ap, ◌∙◌, Bor, Mut, IsEquivalence, HashWrites, IsKeyTest, option_and_then, option_map, arith, nat_tests, and_parts}
 use Rattle.starlark_hash.specs.HashValue.{hash_number, promoted}
 use Rattle.starlark_hash.specs.declared.hash_value.StarlarkHashValue.{StarlarkHashValue}
 use Rattle.starlark_hash.specs.Search.{Searches}
 use Rattle.starlark_hash.proofs.SearchLemmas.{IsTest, test-refused, test-accepted}
 use Rattle.starlark_table.specs.Table.{Table, members, items_under, item_in}
-use Rattle.starlark_unordered.specs.Pairs.{pairs_of, has_own_hash, under_own, IsSlotOf}
+use Rattle.starlark_unordered.specs.Pairs.{found, pairs_of, has_own_hash, under_own, IsSlotOf}
 use Rattle.starlark_unordered.specs.Sound.{IsKeyed, keyed, home_of}
 use Rattle.starlark_unordered.proofs.Keys.{slot_of, own_of}
 use Rattle.std.proofs.lemmas.Bool.{and_right, and_from}
@@ -34,6 +34,6 @@ module _ {C K V : Type 0} (w : Mut C (Bor (K × V) × Unit {0}) Bool) (eq : K �
       (x, there, and_from (own x.0) (t x.0) (grind (arith, nat_tests, same_test feeds hash fits x.0 home stands, is)) does))
 
 -- the item in the slot of the key has its value
-pub value_of-slot : {K V : Type 0} (t : K → Bool) (m : Table (K × V)) (slot : Option ℕ) → IsSlotOf t m slot → option_map (λ p. p.1) (option_and_then (item_in m) slot) ≡ lookup t (pairs_of m)
+pub value_of-slot : {K V : Type 0} (t : K → Bool) (m : Table (K × V)) (slot : Option ℕ) → IsSlotOf t m slot → option_map (λ p. p.1) (option_and_then (item_in m) slot) ≡ found t (pairs_of m)
 value_of-slot t m None none = sym none
 value_of-slot t m (Some n) there = ap (option_map (λ p. p.1)) there.at ∙ sym there.found

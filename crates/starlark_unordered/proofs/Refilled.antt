@@ -1,6 +1,6 @@
 -- Pairs that move from one list to another.
 use Rattle.starlark_hash.proofs.Common.{◌≡◌, ℕ, Bool, cond, List, ◌∷◌, ◌++◌, Option, Some, None, sym, ◌∙◌, arith, IsPermutation, IsEquivalence, lookup, set_value, MatchOption, none-some, IsPermutation-sym, IsPermutation-trans, IsPermutation-middle, IsPermutation-append_right, sum_by-IsPermutation, common_steps}
-use Rattle.starlark_unordered.specs.Pairs.{HasDistinctKeys}
+use Rattle.starlark_unordered.specs.Pairs.{found, HasDistinctKeys}
 use Rattle.starlark_unordered.proofs.Lists.{nothing}
 
 module _ {K V : Type 0} where
@@ -18,6 +18,7 @@ module _ {K V : Type 0} where
     -- a map of the standard library, which lacks the key where keys are distinct, has one entry more
     pub moves_on : (old : Option V) → old ≡ lookup (eq p.0) es → MatchOption old (IsPermutation (p ∷ es) later) (λ _. later ≡ set_value (eq p.0) es p.1)
         → (whole : List (K × V)) → IsPermutation whole (p ∷ rest ++ es) → record { distinct : HasDistinctKeys eq (rest ++ later); same : IsPermutation whole (rest ++ later) }
+    unfolding found
     moves_on (Some v) is put whole same =
         let lacks = nothing (eq p.0) es (grind (arith, common_steps, laws.refl p.0, once p.0)) in absurd (none-some v (sym lacks ∙ sym is))
     moves_on None is put whole same =

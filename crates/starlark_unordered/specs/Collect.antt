@@ -1,15 +1,14 @@
 -- Maps of an iterator's items.
-use Rattle.std.specs.Prelude.{◌≡◌, ◌≤◌, ◌+◌, ℕ, Bool, List, [], ◌∷◌, Option, None, Result, IfOk, IsOk, OnOk, IsPermutation, max}
-use Rattle.std.specs.Iterator.{Count, Drains, size}
+use Rattle.std.specs.Prelude.{◌≡◌, ◌≤◌, ◌+◌, ℕ, Bool, List, [], ◌∷◌, Option, None, IsPermutation, max}
+use Rattle.std.specs.Iterator.{Count, Drains}
 use Rattle.std.specs.Iterator.Runs.{WholeRun}
 use Rattle.std.specs.Iterator.SizeHint.{IsWithinCount}
 use Rattle.std.specs.Map.{update_all}
 use Rattle.std.specs.Set.{is_member}
 use Rattle.starlark_table.specs.Growth.{most_for}
-use Rattle.starlark_table.specs.Table.{Table, table_len, GrowsAsNeeded}
+use Rattle.starlark_table.specs.Table.{Table, table_len}
 use Rattle.starlark_unordered.specs.Lookup.{contains, get}
 use Rattle.starlark_unordered.specs.Pairs.{pairs_of, with_pair}
-use Rattle.starlark_hash.specs.Unit.{StepsBeside}
 
 module _ {K V : Type 0} (eq : K → K → Bool) where
   -- new is what these pairs, put in one after the other, make of old, where no order counts
@@ -20,8 +19,8 @@ module _ {K V : Type 0} (eq : K → K → Bool) where
   module _ {T : Type 0} (steps : T → Option (K × V) → T → Type 0) where
     -- the map has the iterator's items, put into one that had room for a number of them within what it bounds, and has room for no
     -- more than that number or the pairs make, whichever is greater
-    abbrev pub Collects : {U : Type 0} → (U → T → Type 0) → (T → Count) → U → Table (K × V) → Type 0
-    Collects becomes remaining iter m = (it : T) × (first : ℕ) × (xs : List (K × V)) × becomes iter it × IsWithinCount first (remaining it)
+    abbrev pub IsCollected : {U : Type 0} → (U → T → Type 0) → (T → Count) → U → Table (K × V) → Type 0
+    IsCollected becomes remaining iter m = (it : T) × (first : ℕ) × (xs : List (K × V)) × becomes iter it × IsWithinCount first (remaining it)
         × Drains steps it xs × InsertsAll [] xs (pairs_of m) × (first ≤ table_len m + m.room) × (table_len m + m.room ≤ most_for (max first (table_len m)))
 
     -- each key has the last of the values that the iterator's items have for it. It speaks of a run, as the kit's clauses on
@@ -29,24 +28,6 @@ module _ {K V : Type 0} (eq : K → K → Bool) where
     abbrev pub HasLast : {U : Type 0} → (U → T → Type 0) → U → Table (K × V) → Type 0
     HasLast becomes iter m = (it : T) × becomes iter it × WholeRun steps it (λ p. (key : K) → get eq m key ≡ update_all eq (λ _. None) p.items key)
 
-    -- a map was made of the iterator's items; or it was refused, which never happens where there are none
-    pub record MakesMap {U E : Type 0} (becomes : U → T → Type 0) (remaining : T → Count) (iter : U) (result : Result (Table (K × V)) E) : Type 0 where
-      pub found : IfOk result (HasLast becomes iter)
-      pub map : IfOk result (Collects becomes remaining iter)
-      pub succeeds : ((it : T) → becomes iter it → size (remaining it) ≡ 0) → IsOk result
-
-    -- the items went into the old map in their order; or one was refused, which never happens where there are none
-    pub record TakesIn {A E : Type 0} (remaining : T → Count) (items : T) (old new : Table (K × V)) (result : Result A E) : Type 0 where
-      pub pairs : OnOk result ((xs : List (K × V)) × Drains steps items xs × InsertsAll (pairs_of old) xs (pairs_of new))
-      pub succeeds : size (remaining items) ≡ 0 → IsOk result
-      pub room : GrowsAsNeeded old new
-
   -- the set has each of the iterator's items, and nothing else
-  abbrev pub HasEach : {S U : Type 0} → (S → Option K → S → Type 0) → (U → S → Type 0) → U → Table (K × V) → Type 0
-  HasEach {S = S} steps becomes iter s = (it : S) × becomes iter it × WholeRun steps it (λ p. (element : K) → contains eq s element ≡ is_member eq p.items element)
-
--- a set was made of the iterator's items; or it was refused, which never happens where there are none
-pub record MakesSet {T S U E : Type 0} (eq : T → T → Bool) (steps : S → Option T → S → Type 0) (becomes : U → S → Type 0) (remaining : S → Count) (iter : U) (result : Result (Table (T × Unit {0})) E) : Type 0 where
-  pub found : IfOk result (HasEach eq steps becomes iter)
-  pub set : IfOk result (Collects eq (StepsBeside steps) becomes remaining iter)
-  pub succeeds : ((it : S) → becomes iter it → size (remaining it) ≡ 0) → IsOk result
+  abbrev pub HasEachItem : {S U : Type 0} → (S → Option K → S → Type 0) → (U → S → Type 0) → U → Table (K × V) → Type 0
+  HasEachItem {S = S} steps becomes iter s = (it : S) × becomes iter it × WholeRun steps it (λ p. (element : K) → contains eq s element ≡ is_member eq p.items element)

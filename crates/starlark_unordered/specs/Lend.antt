@@ -1,11 +1,10 @@
 -- What an `UnorderedMap` ends as, once a reference into it, or into a pair that was put in, has ended.
-use Rattle.std.specs.Prelude.{◌≡◌, ℕ, ◌+◌, Bool, List, Option, Some, IsSome, ◌∷◌, Result, Err, IsOk, OnOk, OnErr, IfErr, IfOk, IsPermutation, MatchResult}
+use Rattle.std.specs.Prelude.{◌≡◌, ℕ, Bool, List, Option, Some, IsSome, ◌∷◌, Result, Err, IsOk, OnOk, OnErr, IfErr, IfOk, IsPermutation, MatchResult}
 use Rattle.std.specs.Option.{OnSome, IfNone}
 use Rattle.std.specs.Borrow.{Fml, GName, RattleType, MutBor, Lends, LendsSo, follows, Bor, follows_so, name_if_ok}
 use Rattle.starlark_table.specs.Table.{Table, item_in, GrowsAsNeeded}
 use Rattle.starlark_table.specs.Lend.{with_values}
-use Rattle.starlark_unordered.specs.Lookup.{found, total_of, Writes}
-use Rattle.starlark_hash.specs.Lookup.{weight_of}
+use Rattle.starlark_unordered.specs.Lookup.{found, Trades, Writes}
 use Rattle.starlark_unordered.specs.Pairs.{pairs_of, with_value, IsWritten}
 use Rattle.starlark_unordered.specs.contracts.unordered_map.UnorderedMap.{the_row}
 use Rattle.starlark_hash.specs.declared.no_room.NoRoom.{NoRoom}
@@ -21,8 +20,8 @@ map_row K V g = the_row K V (record { eq = g.eq }) (record { hash_input = g.hash
 -- what `get_mut` leaves: new is old with this value at the key that passes, where there is one, and by any measure it weighs in
 -- the slot of the one that was there
 abbrev pub WritesThrough : {K V : Type 0} → (K → K → Bool) → (K → Bool) → Table (K × V) → Option (MutBor V) → V → Table (K × V) → Type 0
-WritesThrough {V = V} eq t old r value new = OnSome r (IsWritten t old value new) × (IsSome (found t (pairs_of old)) → Writes eq t old new (Some value))
-    × (IsSome (found t (pairs_of old)) → (measure : V → ℕ) → total_of measure (pairs_of new) + weight_of measure (found t (pairs_of old)) ≡ total_of measure (pairs_of old) + measure value)
+WritesThrough eq t old r value new = OnSome r (IsWritten t old value new) × (IsSome (found t (pairs_of old)) → Writes eq t old new (Some value))
+    × (IsSome (found t (pairs_of old)) → Trades old new (found t (pairs_of old)) (Some value))
 
 module _ (K V : RattleType) (g : HashMembers K.Denot) (s : MutBor (Table (K.Denot × V.Denot))) where
   -- the value in the slot ends as what is left behind the reference, and all else stays
@@ -58,12 +57,6 @@ module _ {K V B : Type 0} where
     pub full : OnErr result (lent.now.room ≡ 0)
     pub handed_back : IfErr result (λ refused. refused.0 ≡ back)
     pub unchanged : OnErr result (held.now ≡ lent.now)
-
-  -- the pair that was put in is lent; or it comes back for want of room
-  pub record LendsPair (old : Table (K × V)) (key : K) (value : V) (back : B) (result : Result (Bor K × MutBor V) (NoRoom B)) : Type 0 where
-    pub pair : IfOk result (λ p. (p.0.now ≡ key) × (p.1.now ≡ value))
-    pub full : OnErr result (old.room ≡ 0)
-    pub handed_back : IfErr result (λ refused. refused.0 ≡ back)
 
 module _ (K V : RattleType) (g : HashMembers K.Denot) (s : MutBor (Table (K.Denot × V.Denot))) {E : Type 0} where
   -- the value in the slot ends as what is left behind the reference, and all else stays

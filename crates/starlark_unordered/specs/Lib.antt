@@ -9,13 +9,10 @@ pub mod Retain
 pub mod Slots
 pub mod MapEntry
 pub mod RawEntry
-pub mod Clone
 pub mod Collect
 pub mod Set
 pub mod SetRawEntry
 pub mod SetLend
-pub mod Compare
 pub mod Lookup
 pub mod Insert
-pub mod New
 pub mod Remove

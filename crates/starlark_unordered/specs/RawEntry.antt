@@ -35,13 +35,6 @@ module _ {K V : Type 0} where
     pub map : held.now ≡ lent.now
     pub slot : IsSlotOf t lent.now found
 
-  -- an entry holds the lent map, as it was, with the slot of a key of this own hash that the closure accepts, or none where it
-  -- refuses them all
-  pub record NamesAccepted {F : Type 0} (g : Mut F (Bor K × Unit {0}) Bool) (feeds : K → HashWrites) (under : StarlarkHashValue) (f : F) (lent held : MutBor (Table (K × V))) (slot : Option ℕ) : Type 0 where
-    pub same_map : held.ghost_name ≡ lent.ghost_name
-    pub map : held.now ≡ lent.now
-    pub found : (last : F) × Searches g (keys_under feeds under lent.now) f slot last
-
   -- a slot that has a pair, with a key of this own hash that the closure accepts; or none where it refuses them all
   pub record Accepts {F : Type 0} (g : Mut F (Bor K × Unit {0}) Bool) (feeds : K → HashWrites) (under : StarlarkHashValue) (f : F) (m : Table (K × V)) (slot : Option ℕ) : Type 0 where
     pub found : (last : F) × Searches g (keys_under feeds under m) f slot last
@@ -94,18 +87,6 @@ module _ {K V : Type 0} {g : eq.Ghosts K} {h : hash.Ghosts K} where
   -- the entry, once this is its key
   abbrev pub with_raw_key : RawOccupiedEntryMut K V g h → K → RawOccupiedEntryMut K V g h
   with_raw_key o key = record { map = record o.map { now = with_key o.map.now o.slot key }; slot = o.slot; there = key_still_there o.map.now o.slot key o.there }
-
-  -- the value stands in the place of the one that was there, which is answered, and all else is as it was
-  pub record ReplacesRawValue (value was : V) (before after : RawOccupiedEntryMut K V g h) : Type 0 where
-    pub old : option_map (λ p. p.1) (stored_raw before) ≡ Some was
-    pub new : after ≡ with_raw_value before value
-    pub pairs : IfSome (stored_raw before) (λ p. IsInPlace p (p.0, value) (pairs_of before.map.now) (pairs_of after.map.now))
-
-  -- the same of a key
-  pub record ReplacesRawKey (key was : K) (before after : RawOccupiedEntryMut K V g h) : Type 0 where
-    pub old : option_map (λ p. p.0) (stored_raw before) ≡ Some was
-    pub new : after ≡ with_raw_key before key
-    pub pairs : IfSome (stored_raw before) (λ p. IsInPlace p (key, p.1) (pairs_of before.map.now) (pairs_of after.map.now))
 
 module _ (K V : RattleType) {g : eq.Ghosts K.Denot} {h : hash.Ghosts K.Denot} where
   -- the entry ends with the value that is left behind the reference

@@ -1,13 +1,12 @@
 -- What the contracts of a set's raw entries cite.
 pub use Rattle.starlark_unordered.specs.declared.unordered_set.raw_entry.RawEntryMut.TheVariants.{Occupied, Vacant}
-use Rattle.std.specs.Prelude.{◌≡◌, ℕ, Option, Some, None}
+use Rattle.std.specs.Prelude.{ℕ, Option, Some, None}
 use Rattle.std.specs.Option.{option_map}
 use Rattle.std.specs.Borrow.{MutBor}
 use Rattle.std.specs.declared.cmp.PartialEq as eq
 use Rattle.std.specs.declared.hash.Hash as hash
 use Rattle.starlark_table.specs.Table.{item_in}
-use Rattle.starlark_unordered.specs.Pairs.{pairs_of}
-use Rattle.starlark_unordered.specs.RawEntry.{with_key, key_still_there, IsInPlace}
+use Rattle.starlark_unordered.specs.RawEntry.{with_key, key_still_there}
 use Rattle.starlark_unordered.specs.Set.{Set}
 use Rattle.starlark_unordered.specs.declared.unordered_set.raw_entry.RawEntryMut.{RawEntryMut}
 use Rattle.starlark_unordered.specs.declared.unordered_set.raw_entry.RawOccupiedEntryMut.{RawOccupiedEntryMut}
@@ -30,11 +29,3 @@ module _ {T : Type 0} {g : eq.Ghosts T} {h : hash.Ghosts T} where
   -- the entry, once this is its element
   abbrev pub with_raw_element : RawOccupiedEntryMut T g h → T → RawOccupiedEntryMut T g h
   with_raw_element o element = record { map = record o.map { now = with_key o.map.now o.slot element }; slot = o.slot; there = key_still_there o.map.now o.slot element o.there }
-
-  -- the element stands in the place of the one that was there, and the room is as it was
-  pub record Replaces (element was : T) (before after : RawOccupiedEntryMut T g h) : Type 0 where
-    pub old : stored_element before ≡ Some was
-    pub new : after ≡ with_raw_element before element
-    pub shown : stored_element after ≡ Some element
-    pub elements : IsInPlace (was, tt) (element, tt) (pairs_of before.map.now) (pairs_of after.map.now)
-    pub room : after.map.now.room ≡ before.map.now.room

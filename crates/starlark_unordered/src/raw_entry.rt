@@ -1,13 +1,12 @@
 //! Slots of a map that a query, or a hash and a closure choose.
-ghost use Rattle.std.specs.Prelude.{◌≡◌, true, Some, None, IfOk, IfSome};
+ghost use Rattle.std.specs.Prelude.{◌≡◌, ◌+◌, ◌∷◌, true, Some, None, IfErr, IfOk, IfSome, IsPermutation, OnErr};
 ghost use Rattle.std.specs.Borrow.{sem};
-ghost use Rattle.std.specs.Map.{lookup};
 ghost use Rattle.std.specs.Option.{is_some, option_map};
 ghost use Rattle.starlark_hash.specs.HashValue.{hash_of, key_of};
 ghost use Rattle.starlark_hash.specs.Hasher.{own_hash};
-ghost use Rattle.starlark_hash.specs.Search.{CanSearch};
-ghost use Rattle.starlark_table.specs.Table.{item_in};
-ghost use Rattle.starlark_unordered.specs.Remove.{TakesOut};
+ghost use Rattle.starlark_hash.specs.Search.{CanSearch, Searches};
+ghost use Rattle.starlark_table.specs.Table.{item_in, table_len};
+ghost use Rattle.starlark_unordered.specs.Lookup.{get};
 ghost use Rattle.starlark_unordered.specs.Pairs.{pairs_of, keys_under, under_own};
 ghost use Rattle.starlark_unordered.specs.Lend.{lends_placed, LendsSlot};
 
@@ -74,10 +73,9 @@ impl<K: Eq + Hash, V> UnorderedMap<K, V> {
 }
 
 impl<'a, K: Eq + Hash, V> RawEntryBuilderMut<'a, K, V> {
-    ghost use Rattle.starlark_unordered.specs.RawEntry.{map_of_raw, slot_of_raw, IsRawEntryAt, NamesAccepted, NamesSlot};
+    ghost use Rattle.starlark_unordered.specs.RawEntry.{map_of_raw, slot_of_raw, HoldsMap, IsRawEntryAt, NamesSlot};
 
     /// The pair of the key that the query stands for, or vacant where the map lacks it. The map is as it was.
-    #[tactic(auto, unfolding(crate::specs::Lookup::found))]
     #[inline]
     pub fn from_key<Q: HashQuery<K>>(self, query: Q) -> RawEntryMut<'a, K, V>
         ensures entry { IsRawEntryAt K.eq (Q.stands_for query) self.entry.map.now result }
@@ -113,7 +111,9 @@ impl<'a, K: Eq + Hash, V> RawEntryBuilderMut<'a, K, V> {
         is_match: F,
     ) -> RawEntryMut<'a, K, V>
         requires { CanSearch F.FnMut (keys_under K.hash_input hash self.map.now) is_match }
-        ensures names { NamesAccepted F.FnMut K.hash_input hash is_match self.entry.map (map_of_raw result) (slot_of_raw result) }
+        ensures holds { HoldsMap self.entry.map (map_of_raw result) }
+        // The slot of a key of this own hash that the closure accepts, or none where it refuses them all.
+        ensures found { (last : F) × Searches F.FnMut (keys_under K.hash_input hash self.entry.map.now) is_match (slot_of_raw result) last }
     {
         let RawEntryBuilderMut { map } = self;
         match map.slot_accepted(hash, is_match) {
@@ -124,12 +124,14 @@ impl<'a, K: Eq + Hash, V> RawEntryBuilderMut<'a, K, V> {
 }
 
 impl<'a, K: Eq + Hash, V> RawOccupiedEntryMut<'a, K, V> {
-    ghost use Rattle.starlark_unordered.specs.RawEntry.{raw_keeps, stored_raw, ReplacesRawKey, ReplacesRawValue};
+    ghost use Rattle.starlark_unordered.specs.RawEntry.{raw_keeps, stored_raw, with_raw_key, with_raw_value, IsInPlace};
 
     /// Puts this value in the place of the one that is there, which is answered. The other pairs stay.
     #[inline]
     pub fn insert(&mut self, value: V) -> V
-        ensures replaces { ReplacesRawValue value result self.old self.new }
+        ensures old { option_map (λ p. p.1) (stored_raw self.old) ≡ Some result }
+        ensures new { self.new ≡ with_raw_value self.old value }
+        ensures pairs { IfSome (stored_raw self.old) (λ p. IsInPlace p (p.0, value) (pairs_of self.old.map.now) (pairs_of self.new.map.now)) }
     {
         mem::replace(self.get_mut(), value)
     }
@@ -139,7 +141,9 @@ impl<'a, K: Eq + Hash, V> RawOccupiedEntryMut<'a, K, V> {
     #[inline]
     pub fn insert_key(&mut self, key: K) -> K
         requires { IfSome (stored_raw self.old) (λ p. K.eq key p.0 ≡ true) }
-        ensures replaces { ReplacesRawKey key result self.old self.new }
+        ensures old { option_map (λ p. p.0) (stored_raw self.old) ≡ Some result }
+        ensures new { self.new ≡ with_raw_key self.old key }
+        ensures pairs { IfSome (stored_raw self.old) (λ p. IsInPlace p (key, p.1) (pairs_of self.old.map.now) (pairs_of self.new.map.now)) }
     {
         let slot = self.slot;
         self.map.replace_key(slot, key)
@@ -168,7 +172,9 @@ impl<'a, K: Eq + Hash, V> RawOccupiedEntryMut<'a, K, V> {
     pub fn remove(self) -> V
     where
         K: Drop,
-        ensures takes { TakesOut (option_map (λ p. p.1) (stored_raw self.entry)) result (stored_raw self.entry) self.entry.map.now self.exit.0.now }
+        ensures value { option_map (λ p. p.1) (stored_raw self.entry) ≡ Some result }
+        ensures pairs { IfSome (stored_raw self.entry) (λ p. IsPermutation (pairs_of self.entry.map.now) (p ∷ pairs_of self.exit.0.now)) }
+        ensures room { table_len self.exit.0.now + self.exit.0.now.room ≡ table_len self.entry.map.now + self.entry.map.now.room }
     {
         let slot = self.slot;
         let (_key, value) = self.map.take_out(slot);
@@ -178,7 +184,9 @@ impl<'a, K: Eq + Hash, V> RawOccupiedEntryMut<'a, K, V> {
     /// Takes the pair out, and answers it. The other pairs stay, and the room comes back.
     #[inline]
     pub fn remove_entry(self) -> (K, V)
-        ensures takes { TakesOut (stored_raw self.entry) result (Some result) self.entry.map.now self.exit.0.now }
+        ensures pair { stored_raw self.entry ≡ Some result }
+        ensures pairs { IsPermutation (pairs_of self.entry.map.now) (result ∷ pairs_of self.exit.0.now) }
+        ensures room { table_len self.exit.0.now + self.exit.0.now.room ≡ table_len self.entry.map.now + self.entry.map.now.room }
     {
         let slot = self.slot;
         self.map.take_out(slot)
@@ -186,13 +194,16 @@ impl<'a, K: Eq + Hash, V> RawOccupiedEntryMut<'a, K, V> {
 }
 
 impl<'a, K: Eq + Hash, V> RawVacantEntryMut<'a, K, V> {
-    ghost use Rattle.starlark_unordered.specs.Lend.{lends_added, LendsPair, PutsPair};
+    ghost use Rattle.starlark_unordered.specs.Lend.{lends_added, PutsPair};
 
     /// Puts a key in under its own hash, as `insert_hashed` does under one that is brought.
     pub fn insert(self, key: K, value: V) -> Result<(&'a K, &'a mut V), NoRoom<(K, V)>>
-        requires { lookup (K.eq key) (pairs_of self.map.now) ≡ None }
+        requires { get K.eq self.map.now key ≡ None }
         ensures* writes_back { sem 𝓛 (lends_added K.row V.row K.Hash self.entry.map key result) }
-        ensures lends { LendsPair self.entry.map.now key value (key, value) result }
+        ensures pair { IfOk result (λ pair. (pair.0.now ≡ key) × (pair.1.now ≡ value)) }
+        // Refused: only at room 0. Key and value come back.
+        ensures full { OnErr result (self.entry.map.now.room ≡ 0) }
+        ensures handed_back { IfErr result (λ refused. refused.0 ≡ (key, value)) }
     {
         lend_placed(self.place(key, value))
     }
@@ -207,16 +218,19 @@ impl<'a, K: Eq + Hash, V> RawVacantEntryMut<'a, K, V> {
         value: V,
     ) -> Result<(&'a K, &'a mut V), NoRoom<(Hashed<K>, V)>>
         requires own { hash_of key ≡ own_hash K.hash_input (key_of key) }
-        requires absent { lookup (K.eq (key_of key)) (pairs_of self.map.now) ≡ None }
+        requires lacking { get K.eq self.map.now (key_of key) ≡ None }
         ensures* writes_back { sem 𝓛 (lends_added K.row V.row K.Hash self.entry.map (key_of key) result) }
-        ensures lends { LendsPair self.entry.map.now (key_of key) value (key, value) result }
+        ensures pair { IfOk result (λ pair. (pair.0.now ≡ key_of key) × (pair.1.now ≡ value)) }
+        // Refused: only at room 0. Key, hash and value come back.
+        ensures full { OnErr result (self.entry.map.now.room ≡ 0) }
+        ensures handed_back { IfErr result (λ refused. refused.0 ≡ (key, value)) }
     {
         lend_placed(self.place_hashed(key, value))
     }
 
     // Puts a new key in under its own hash, and answers the map with the slot, or the refusal.
     fn place(self, key: K, value: V) -> (&'a mut UnorderedMap<K, V>, Result<usize, NoRoom<(K, V)>>)
-        requires { lookup (K.eq key) (pairs_of self.map.now) ≡ None }
+        requires { get K.eq self.map.now key ≡ None }
         ensures { PutsPair self.entry.map result.0 key value (key, value) result.1 }
     {
         let RawVacantEntryMut { map } = self;
@@ -235,7 +249,7 @@ impl<'a, K: Eq + Hash, V> RawVacantEntryMut<'a, K, V> {
         Result<usize, NoRoom<(Hashed<K>, V)>>,
     )
         requires own { hash_of key ≡ own_hash K.hash_input (key_of key) }
-        requires absent { lookup (K.eq (key_of key)) (pairs_of self.map.now) ≡ None }
+        requires lacking { get K.eq self.map.now (key_of key) ≡ None }
         ensures { PutsPair self.entry.map result.0 (key_of key) value (key, value) result.1 }
     {
         let RawVacantEntryMut { map } = self;

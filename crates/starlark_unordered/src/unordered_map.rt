@@ -1,8 +1,8 @@
 //! The map. It alone sees its table.
-ghost use Rattle.std.specs.Prelude.{◌≡◌, ◌==◌, length};
-ghost use Rattle.starlark_unordered.specs.Lookup.{Counts};
-ghost use Rattle.starlark_unordered.specs.New.{IsEmptyWith, MakesEmptyFor};
-ghost use Rattle.starlark_unordered.specs.Pairs.{pairs_of};
+ghost use Rattle.std.specs.Prelude.{◌≡◌, ◌==◌, ◌≤◌, [], IfOk, IsOk, length};
+ghost use Rattle.starlark_table.specs.Growth.{most_for};
+ghost use Rattle.starlark_unordered.specs.Lookup.{IsEmpty};
+ghost use Rattle.starlark_unordered.specs.Pairs.{pairs_of, HasDistinctKeys};
 
 mod clone;
 mod collect;
@@ -46,9 +46,11 @@ impl<K: Eq + Hash, V> Model for UnorderedMap<K, V> {
 
 impl<K: Eq + Hash, V> UnorderedMap<K, V> {
     /// An empty map without room. It asks for no memory before the first insertion.
-    #[tactic(auto, using(crate::proofs::Callers::callers), unfolding(crate::specs::Lookup::found))]
+    #[tactic(auto, using(crate::proofs::Callers::callers))]
     pub fn new(alloc: Global) -> Self
-        ensures made { IsEmptyWith 0 result }
+        ensures empty { pairs_of result ≡ [] }
+        ensures found { IsEmpty result }
+        ensures room { result.room ≡ 0 }
     {
         UnorderedMap {
             table: ReadyTable::without_slots(alloc),
@@ -58,9 +60,13 @@ impl<K: Eq + Hash, V> UnorderedMap<K, V> {
 
     /// An empty map with room for so many pairs at least, and for twice as many, or 6, at most. Where memory is refused,
     /// nothing is made; capacity 0 is not refused.
-    #[tactic(auto, using(crate::proofs::Callers::callers), unfolding(crate::specs::Lookup::found))]
+    #[tactic(auto, using(crate::proofs::Callers::callers))]
     pub fn with_capacity(alloc: Global, capacity: usize) -> Result<Self, AllocError>
-        ensures makes { MakesEmptyFor capacity result }
+        ensures empty { IfOk result (λ map. pairs_of map ≡ []) }
+        ensures found { IfOk result (λ map. IsEmpty map) }
+        ensures room { IfOk result (λ map. capacity ≤ map.room) }
+        ensures most { IfOk result (λ map. map.room ≤ most_for capacity) }
+        ensures none_for_none { capacity ≡ 0 → IsOk result }
     {
         Ok(UnorderedMap {
             table: ReadyTable::keeping(alloc, capacity)?,
@@ -71,7 +77,8 @@ impl<K: Eq + Hash, V> UnorderedMap<K, V> {
     /// How many pairs there are.
     #[inline]
     pub fn len(&self) -> usize
-        ensures counts { Counts K.eq self.now result }
+        ensures len { result ≡ length (pairs_of self.now) }
+        ensures distinct { HasDistinctKeys K.eq (pairs_of self.now) }
     {
         self.table.len()
     }

@@ -1,15 +1,15 @@
 //! The set: an `UnorderedMap` to `()`.
-ghost use Rattle.std.specs.Prelude.{◌≡◌, ◌==◌, ◌+◌, length, not, is_some, IfOk};
+ghost use Rattle.std.specs.Prelude.{◌≡◌, ◌==◌, ◌≤◌, ◌+◌, [], length, map, not, is_some, true, IfErr, IfOk, IsOk, IsSortedByKey, IsPermutation, OnErr, OnOk, Some, if◌then◌else◌};
 ghost use Rattle.std.specs.Map.Iter.{deref};
 ghost use Rattle.starlark_hash.specs.HashValue.{hash_of, key_of};
-ghost use Rattle.starlark_table.specs.Table.{table_len};
-ghost use Rattle.starlark_unordered.specs.Lookup.{Counts, Tells, TellsUnder};
-ghost use Rattle.starlark_unordered.specs.Insert.{Inserts};
-ghost use Rattle.starlark_unordered.specs.New.{IsEmptyWith, MakesEmptyFor};
-ghost use Rattle.starlark_unordered.specs.Clone.{ClonesSet};
-ghost use Rattle.starlark_hash.specs.Clone.{IsEqualClone};
-ghost use Rattle.starlark_unordered.specs.Pairs.{pairs_of};
-ghost use Rattle.starlark_unordered.specs.Iter.{ShowsSorted};
+ghost use Rattle.starlark_hash.specs.Hasher.{own_hash};
+ghost use Rattle.starlark_table.specs.Growth.{most_for};
+ghost use Rattle.starlark_table.specs.Table.{GrowsAsNeeded, table_len};
+ghost use Rattle.starlark_unordered.specs.Lookup.{contains, get_under, IsEmpty, Updates};
+ghost use Rattle.starlark_unordered.specs.Insert.{IsRefusedPair};
+ghost use Rattle.std.specs.List.{AllZip};
+ghost use Rattle.starlark_hash.specs.Clone.{IsEqualClone, IsLawfulClone};
+ghost use Rattle.starlark_unordered.specs.Pairs.{pairs_of, with_pair, HasDistinctKeys};
 
 mod collect;
 mod compare;
@@ -44,7 +44,9 @@ impl<T: Eq + Hash> UnorderedSet<T> {
 
     /// An empty set without room. It asks for no memory before the first insertion.
     pub fn new(alloc: Global) -> Self
-        ensures made { IsEmptyWith 0 result }
+        ensures empty { pairs_of result ≡ [] }
+        ensures found { IsEmpty result }
+        ensures room { result.room ≡ 0 }
     {
         UnorderedSet {
             map: UnorderedMap::new(alloc),
@@ -55,7 +57,11 @@ impl<T: Eq + Hash> UnorderedSet<T> {
     /// An empty set with room for so many elements at least, and for twice as many, or 6, at most. Where memory is
     /// refused, nothing is made; capacity 0 is not refused.
     pub fn with_capacity(alloc: Global, capacity: usize) -> Result<Self, AllocError>
-        ensures makes { MakesEmptyFor capacity result }
+        ensures empty { IfOk result (λ set. pairs_of set ≡ []) }
+        ensures found { IfOk result (λ set. IsEmpty set) }
+        ensures room { IfOk result (λ set. capacity ≤ set.room) }
+        ensures most { IfOk result (λ set. set.room ≤ most_for capacity) }
+        ensures none_for_none { capacity ≡ 0 → IsOk result }
     {
         Ok(UnorderedSet {
             map: UnorderedMap::with_capacity(alloc, capacity)?,
@@ -69,7 +75,17 @@ impl<T: Eq + Hash> UnorderedSet<T> {
     pub fn insert(&mut self, element: T) -> Result<bool, NoRoom<T>>
     where
         T: Drop,
-        ensures inserts { Inserts T.eq self.old self.new element tt element (λ was. not (is_some was)) result }
+        // Done: true says that the set lacked the element.
+        ensures old { IfOk result (λ is_new. is_new ≡ not (contains T.eq self.old element)) }
+        // The set has the element, and of all others those that it had. As a list, and by their number.
+        ensures updates { OnOk result (Updates T.eq self.old self.new element (Some tt)) }
+        ensures pairs { OnOk result (IsPermutation (with_pair T.eq element tt (pairs_of self.old)) (pairs_of self.new)) }
+        ensures count { OnOk result (length (pairs_of self.new) ≡ length (pairs_of self.old) + (if contains T.eq self.old element then 0 else 1)) }
+        // Refused: only a new element, only at room 0. It comes back, and the set is as it was.
+        ensures refused { OnErr result (IsRefusedPair T.eq self.old self.new element) }
+        ensures handed_back { IfErr result (λ refused. refused.0 ≡ element) }
+        // It grows only for an element that does not fit.
+        ensures memory { GrowsAsNeeded self.old self.new }
     {
         match self.map.insert(element, ()) {
             Ok(old) => Ok(old.is_none()),
@@ -77,11 +93,13 @@ impl<T: Eq + Hash> UnorderedSet<T> {
         }
     }
 
-    /// Takes every element out. The room comes back.
+    /// Removes every element. The room comes back.
     pub fn clear(&mut self)
     where
         T: Drop,
-        ensures cleared { IsEmptyWith (table_len self.old + self.old.room) self.new }
+        ensures empty { pairs_of self.new ≡ [] }
+        ensures found { IsEmpty self.new }
+        ensures room { self.new.room ≡ table_len self.old + self.old.room }
     {
         self.map.clear();
     }
@@ -97,7 +115,8 @@ impl<T: Eq + Hash> UnorderedSet<T> {
     /// How many elements there are.
     #[inline]
     pub fn len(&self) -> usize
-        ensures counts { Counts T.eq self.now result }
+        ensures len { result ≡ length (pairs_of self.now) }
+        ensures distinct { HasDistinctKeys T.eq (pairs_of self.now) }
     {
         self.map.len()
     }
@@ -105,7 +124,7 @@ impl<T: Eq + Hash> UnorderedSet<T> {
     /// Whether the set has the element that the query stands for.
     #[inline(always)]
     pub fn contains<Q: HashQuery<T>>(&self, query: Q) -> bool
-        ensures tells { Tells (Q.stands_for query) self.now result }
+        ensures { result ≡ contains Q.stands_for self.now query }
     {
         self.map.contains_key(query)
     }
@@ -113,7 +132,10 @@ impl<T: Eq + Hash> UnorderedSet<T> {
     /// Whether the set has the element, and this is its own hash.
     #[inline(always)]
     pub fn contains_hashed<Q: Query<T>>(&self, element: Hashed<Q>) -> bool
-        ensures tells { TellsUnder T.eq T.hash_input (Q.stands_for (key_of element)) (hash_of element) self.now result }
+        ensures value { result ≡ is_some (get_under Q.stands_for T.hash_input self.now element) }
+        // So a look-up without a hash finds the element, and tells it of an equal one with this own hash.
+        ensures found { result ≡ true → contains Q.stands_for self.now (key_of element) ≡ true }
+        ensures own { (same : T) → hash_of element ≡ own_hash T.hash_input same → Q.stands_for (key_of element) ≡ T.eq same → contains T.eq self.now same ≡ result }
     {
         self.map.contains_key_hashed(element)
     }
@@ -122,7 +144,8 @@ impl<T: Eq + Hash> UnorderedSet<T> {
     pub fn entries_sorted(&self) -> Result<Vec<&T>, AllocError>
     where
         T: Ord,
-        ensures sorted { IfOk result (λ entries. ShowsSorted deref (λ entry. entry.now) T.cmp (elements_of self.now) entries.items) }
+        ensures each { IfOk result (λ entries. IsPermutation (elements_of self.now) (map deref entries.items)) }
+        ensures ascends { IfOk result (λ entries. IsSortedByKey (λ entry. entry.now) T.cmp entries.items) }
     {
         let mut entries = Vec::from_iter(self.alloc, self.map.keys_unordered())?;
         entries.sort_by(|a, b| (*a).cmp(*b))?;
@@ -131,13 +154,19 @@ impl<T: Eq + Hash> UnorderedSet<T> {
 }
 
 impl<T: Eq + Hash + Clone> UnorderedSet<T> {
+    ghost use Rattle.starlark_unordered.specs.Set.{elements_of};
+
     /// A set of clones of the elements, each in its original's slot, with as much room. Where memory is refused, also
     /// to the clone of an element, nothing is made. An empty set without room needs none. Required is that a clone of an
     /// element is equal to it.
     pub fn clone(&self) -> Result<Self, AllocError>
         // A clone of an element is equal to it.
         requires { IsEqualClone T.eq T.is_clone }
-        ensures clones { ClonesSet T.eq T.is_clone self.now result }
+        ensures elements { IfOk result (λ set. AllZip T.is_clone (elements_of self.now) (elements_of set)) }
+        ensures same { IsLawfulClone T.is_clone → IfOk result (λ set. pairs_of set ≡ pairs_of self.now) }
+        ensures found { IfOk result (λ set. (element : T) → contains T.eq set element ≡ contains T.eq self.now element) }
+        ensures room { IfOk result (λ set. set.room ≡ self.now.room) }
+        ensures none_for_none { pairs_of self.now ≡ [] → self.now.room ≡ 0 → IsOk result }
     {
         Ok(UnorderedSet {
             map: self.map.clone()?,

@@ -1,6 +1,9 @@
 //! `UnorderedMap`s made of clones.
-ghost use Rattle.starlark_unordered.specs.Clone.{Clones};
-ghost use Rattle.starlark_hash.specs.Clone.{IsEqualClone};
+ghost use Rattle.std.specs.List.{AllZip};
+ghost use Rattle.std.specs.Prelude.{◌≡◌, [], IfOk, IsOk};
+ghost use Rattle.starlark_hash.specs.Clone.{IsEqualClone, IsLawfulClone, IsPairClone};
+ghost use Rattle.starlark_unordered.specs.Lookup.{contains};
+ghost use Rattle.starlark_unordered.specs.Pairs.{pairs_of};
 
 use super::UnorderedMap;
 use std::alloc::AllocError;
@@ -12,7 +15,11 @@ impl<K: Eq + Hash + Clone, V: Clone> UnorderedMap<K, V> {
     pub fn clone(&self) -> Result<Self, AllocError>
         // A clone of a key is equal to it.
         requires { IsEqualClone K.eq K.is_clone }
-        ensures clones { Clones K.eq K.is_clone V.is_clone self.now result }
+        ensures pairs { IfOk result (λ map. AllZip (IsPairClone K.is_clone V.is_clone) (pairs_of self.now) (pairs_of map)) }
+        ensures same { IsLawfulClone K.is_clone → IsLawfulClone V.is_clone → IfOk result (λ map. pairs_of map ≡ pairs_of self.now) }
+        ensures found { IfOk result (λ map. (key : K) → contains K.eq map key ≡ contains K.eq self.now key) }
+        ensures room { IfOk result (λ map. map.room ≡ self.now.room) }
+        ensures none_for_none { pairs_of self.now ≡ [] → self.now.room ≡ 0 → IsOk result }
     {
         if self.len() == 0 && self.room() == 0 {
             return Ok(UnorderedMap::new(self.alloc));

@@ -1,6 +1,9 @@
 //! `UnorderedMap`s from the items of iterators.
-ghost use Rattle.std.specs.Iterator.{IsFiniteIterable, IsFinite};
-ghost use Rattle.starlark_unordered.specs.Collect.{MakesMap, TakesIn};
+ghost use Rattle.std.specs.Iterator.{Drains, IsFinite, IsFiniteIterable, size};
+ghost use Rattle.std.specs.Prelude.{◌≡◌, IfOk, IsOk, List, OnOk};
+ghost use Rattle.starlark_table.specs.Table.{GrowsAsNeeded};
+ghost use Rattle.starlark_unordered.specs.Collect.{HasLast, InsertsAll, IsCollected};
+ghost use Rattle.starlark_unordered.specs.Pairs.{pairs_of};
 
 use super::UnorderedMap;
 use std::alloc::{AllocError, Global};
@@ -15,7 +18,9 @@ impl<K: Eq + Hash + Drop, V: Drop> UnorderedMap<K, V> {
         iter: I,
     ) -> Result<Self, AllocError>
         requires { IsFiniteIterable I.into_iter_gives I.IntoIter.can_next I.IntoIter.remaining iter }
-        ensures makes { MakesMap K.eq I.IntoIter.next_gives I.into_iter_gives I.IntoIter.remaining iter result }
+        ensures found { IfOk result (λ map. HasLast K.eq I.IntoIter.next_gives I.into_iter_gives iter map) }
+        ensures pairs { IfOk result (λ map. IsCollected K.eq I.IntoIter.next_gives I.into_iter_gives I.IntoIter.remaining iter map) }
+        ensures none_for_none { ((it : I.IntoIter) → I.into_iter_gives iter it → size (I.IntoIter.remaining it) ≡ 0) → IsOk result }
     {
         let items = iter.into_iter();
         let mut map = UnorderedMap::with_capacity(alloc, items.size_hint().0)?;
@@ -27,7 +32,9 @@ impl<K: Eq + Hash + Drop, V: Drop> UnorderedMap<K, V> {
     fn insert_items<I: Iterator<Item = (K, V)>>(&mut self, mut items: I) -> Result<(), AllocError>
         requires can { I.can_next items }
         requires finite { IsFinite (I.remaining items) }
-        ensures takes { TakesIn K.eq I.next_gives I.remaining items self.old self.new result }
+        ensures pairs { OnOk result ((xs : List (K × V)) × Drains I.next_gives items xs × InsertsAll K.eq (pairs_of self.old) xs (pairs_of self.new)) }
+        ensures none_for_none { size (I.remaining items) ≡ 0 → IsOk result }
+        ensures memory { GrowsAsNeeded self.old self.new }
     {
         while let Some(pair) = items.next() {
             let (key, value) = pair;

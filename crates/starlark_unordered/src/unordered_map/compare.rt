@@ -1,11 +1,10 @@
 //! `==`, `Hash` and `Debug` of an `UnorderedMap`.
-ghost use Rattle.std.specs.Prelude.{◌≡◌, ◌%◌, ◌^◌, Some};
+ghost use Rattle.std.specs.Prelude.{◌≡◌, ◌%◌, ◌^◌, Some, length};
 ghost use Rattle.std.specs.Cmp.{on_equiv, on_per, partial_equiv_from_equiv};
 ghost use Rattle.std.specs.List.{list_all};
 ghost use Rattle.std.specs.Ordering.{on};
 ghost use Rattle.starlark_unordered.specs.Bag.{same_bag};
 ghost use Rattle.starlark_unordered.specs.BagLaws.{pair_equiv, same_bag_equiv, pairs_alike};
-ghost use Rattle.starlark_unordered.specs.Compare.{Compares};
 ghost use Rattle.starlark_unordered.specs.Pairs.{pairs_of, pair_eq, has_equal, hash_sum, feed_pairs};
 
 use super::UnorderedMap;
@@ -45,7 +44,9 @@ impl<K: Eq + Hash, V: Eq> PartialEq for UnorderedMap<K, V> {
     ghost laws = { on_per pairs_of (partial_equiv_from_equiv (same_bag_equiv (pair_eq K.eq V.eq) (pair_equiv K.eq V.eq K.Eq.laws V.Eq.laws))) };
 
     fn eq(&self, other: &UnorderedMap<K, V>) -> bool
-        ensures compares { Compares K.eq V.eq self.now other.now result }
+        ensures same { result ≡ same_bag (pair_eq K.eq V.eq) (pairs_of self.now) (pairs_of other.now) }
+        // If they have as many pairs, this is whether the one has each pair of the other.
+        ensures has_each { length (pairs_of self.now) ≡ length (pairs_of other.now) → result ≡ list_all (has_equal K.eq V.eq (pairs_of other.now)) (pairs_of self.now) }
     {
         self.len() == other.len() && found_in(self.table.iter(), other)
     }

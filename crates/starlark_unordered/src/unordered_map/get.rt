@@ -1,9 +1,13 @@
 //! What an `UnorderedMap` has at a key.
-ghost use Rattle.std.specs.Prelude.{◌≡◌, Some, IsSome, ◌+◌};
+ghost use Rattle.std.specs.Prelude.{◌≡◌, IfSome, IsSome, Some, is_some, true};
+ghost use Rattle.std.specs.Borrow.{sem};
+ghost use Rattle.std.specs.List.{IsAmong};
+ghost use Rattle.std.specs.Map.{values_of};
 ghost use Rattle.std.specs.Option.{option_copied, option_copied_mut};
 ghost use Rattle.starlark_hash.specs.HashValue.{hash_of, key_of};
-ghost use Rattle.starlark_unordered.specs.Lookup.{get, Finds, FindsUnder, Tells, TellsUnder};
-ghost use Rattle.std.specs.Borrow.{sem};
+ghost use Rattle.starlark_hash.specs.Hasher.{own_hash};
+ghost use Rattle.starlark_unordered.specs.Lookup.{contains, get, get_under};
+ghost use Rattle.starlark_unordered.specs.Pairs.{pairs_of};
 
 use super::UnorderedMap;
 use starlark_hash::{HashQuery, Hashed, Query, StarlarkHashValue};
@@ -14,10 +18,11 @@ impl<K: Eq + Hash, V> UnorderedMap<K, V> {
     ghost use Rattle.starlark_unordered.specs.Lend.{lends_at};
 
     /// The value at the key that the query stands for.
-    #[tactic(auto, using(crate::proofs::Callers::callers, crate::proofs::Callers::among_found), unfolding(crate::specs::Lookup::found))]
+    #[tactic(auto, using(crate::proofs::Callers::among_found))]
     #[inline(always)]
     pub fn get<Q: HashQuery<K>>(&self, query: Q) -> Option<&V>
-        ensures finds { Finds (Q.stands_for query) self.now (option_copied result) }
+        ensures value { option_copied result ≡ get Q.stands_for self.now query }
+        ensures member { IfSome (option_copied result) (λ value. IsAmong (values_of (pairs_of self.now)) value) }
     {
         let (_, value) = self.pair_under(StarlarkHashValue::new(&query), query)?;
         Some(value)
@@ -26,17 +31,20 @@ impl<K: Eq + Hash, V> UnorderedMap<K, V> {
     /// The value at the key, as `get` answers it, where this is its own hash: another hash finds nothing.
     #[inline(always)]
     pub fn get_hashed<Q: Query<K>>(&self, key: Hashed<Q>) -> Option<&V>
-        ensures finds { FindsUnder K.eq K.hash_input (Q.stands_for (key_of key)) (hash_of key) self.now (option_copied result) }
+        ensures value { option_copied result ≡ get_under Q.stands_for K.hash_input self.now key }
+        // So it is the value that is found without a hash, and all that is found at an equal key with this own hash.
+        ensures found { IfSome (option_copied result) (λ value. get Q.stands_for self.now (key_of key) ≡ Some value) }
+        ensures own { (same : K) → hash_of key ≡ own_hash K.hash_input same → Q.stands_for (key_of key) ≡ K.eq same → get K.eq self.now same ≡ option_copied result }
+        ensures member { IfSome (option_copied result) (λ value. IsAmong (values_of (pairs_of self.now)) value) }
     {
         let (_, value) = self.pair_hashed(key.hash(), key.into_key())?;
         Some(value)
     }
 
     /// Whether the map has the key that the query stands for.
-    #[tactic(auto, using(crate::proofs::Callers::callers), unfolding(crate::specs::Lookup::found))]
     #[inline(always)]
     pub fn contains_key<Q: HashQuery<K>>(&self, query: Q) -> bool
-        ensures tells { Tells (Q.stands_for query) self.now result }
+        ensures { result ≡ contains Q.stands_for self.now query }
     {
         self.get(query).is_some()
     }
@@ -44,7 +52,10 @@ impl<K: Eq + Hash, V> UnorderedMap<K, V> {
     /// Whether the map has the key, and this is its own hash.
     #[inline(always)]
     pub fn contains_key_hashed<Q: Query<K>>(&self, key: Hashed<Q>) -> bool
-        ensures tells { TellsUnder K.eq K.hash_input (Q.stands_for (key_of key)) (hash_of key) self.now result }
+        ensures value { result ≡ is_some (get_under Q.stands_for K.hash_input self.now key) }
+        // So a look-up without a hash finds the key, and tells it of an equal key with this own hash.
+        ensures found { result ≡ true → contains Q.stands_for self.now (key_of key) ≡ true }
+        ensures own { (same : K) → hash_of key ≡ own_hash K.hash_input same → Q.stands_for (key_of key) ≡ K.eq same → contains K.eq self.now same ≡ result }
     {
         self.get_hashed(key).is_some()
     }
@@ -54,7 +65,8 @@ impl<K: Eq + Hash, V> UnorderedMap<K, V> {
     #[inline(always)]
     pub fn get_mut<Q: HashQuery<K>>(&mut self, query: Q) -> Option<&mut V>
         ensures* writes_back { sem 𝓛 (lends_at K.row V.row K.Hash self.entry (Q.stands_for query) result) }
-        ensures finds { Finds (Q.stands_for query) self.old (option_copied_mut result) }
+        ensures value { option_copied_mut result ≡ get Q.stands_for self.old query }
+        ensures member { IfSome (option_copied_mut result) (λ value. IsAmong (values_of (pairs_of self.old)) value) }
     {
         match self.slot_under(StarlarkHashValue::new(&query), query) {
             Some(slot) => Some(self.value_at_mut(slot)),

@@ -1,7 +1,10 @@
-//! What puts a pair into an `UnorderedMap`.
-ghost use Rattle.std.specs.Prelude.{◌≡◌, ◌+◌};
+//! Insertion into an `UnorderedMap`.
+ghost use Rattle.std.specs.Prelude.{◌≡◌, ◌+◌, IfErr, IfOk, IsPermutation, OnErr, OnOk, Some, if◌then◌else◌, length};
 ghost use Rattle.starlark_hash.specs.Hasher.{own_hash};
-ghost use Rattle.starlark_unordered.specs.Insert.{Inserts};
+ghost use Rattle.starlark_table.specs.Table.{GrowsAsNeeded};
+ghost use Rattle.starlark_unordered.specs.Insert.{IsRefusedPair};
+ghost use Rattle.starlark_unordered.specs.Lookup.{contains, get, Trades, Updates};
+ghost use Rattle.starlark_unordered.specs.Pairs.{pairs_of, with_pair};
 
 use super::UnorderedMap;
 use starlark_hash::{NoRoom, StarlarkHashValue};
@@ -16,7 +19,19 @@ impl<K: Eq + Hash, V> UnorderedMap<K, V> {
     pub fn insert(&mut self, key: K, value: V) -> Result<Option<V>, NoRoom<(K, V)>>
     where
         K: Drop,
-        ensures inserts { Inserts K.eq self.old self.new key value (key, value) (λ was. was) result }
+        // Done: the key's old value comes back.
+        ensures old { IfOk result (λ old. old ≡ get K.eq self.old key) }
+        // The key has this value, and each other key what it had. As a list, the pairs have this one put in; how many
+        // there are, and what the values weigh together, follows.
+        ensures updates { OnOk result (Updates K.eq self.old self.new key (Some value)) }
+        ensures pairs { OnOk result (IsPermutation (with_pair K.eq key value (pairs_of self.old)) (pairs_of self.new)) }
+        ensures count { OnOk result (length (pairs_of self.new) ≡ length (pairs_of self.old) + (if contains K.eq self.old key then 0 else 1)) }
+        ensures total { OnOk result (Trades self.old self.new (get K.eq self.old key) (Some value)) }
+        // Refused: only a new key, only at room 0. Key and value come back, and the map is as it was.
+        ensures refused { OnErr result (IsRefusedPair K.eq self.old self.new key) }
+        ensures handed_back { IfErr result (λ refused. refused.0 ≡ (key, value)) }
+        // It grows only for a pair that does not fit.
+        ensures memory { GrowsAsNeeded self.old self.new }
     {
         let hash = StarlarkHashValue::new(&key);
         // A look that sees at once that the key is new and where its pair goes is mostly the only one.
@@ -27,7 +42,7 @@ impl<K: Eq + Hash, V> UnorderedMap<K, V> {
         self.insert_by_search(hash, key, value)
     }
 
-    // The same by a search under its own hash. It is a call, so that what is inlined is the look alone.
+    // Inserts by a search under the key's own hash. It is a call, so that what is inlined is the look alone.
     #[inline(never)]
     fn insert_by_search(
         &mut self,
@@ -38,7 +53,14 @@ impl<K: Eq + Hash, V> UnorderedMap<K, V> {
     where
         K: Drop,
         requires { hash ≡ own_hash K.hash_input key }
-        ensures inserts { Inserts K.eq self.old self.new key value (key, value) (λ was. was) result }
+        ensures old { IfOk result (λ old. old ≡ get K.eq self.old key) }
+        ensures updates { OnOk result (Updates K.eq self.old self.new key (Some value)) }
+        ensures pairs { OnOk result (IsPermutation (with_pair K.eq key value (pairs_of self.old)) (pairs_of self.new)) }
+        ensures count { OnOk result (length (pairs_of self.new) ≡ length (pairs_of self.old) + (if contains K.eq self.old key then 0 else 1)) }
+        ensures total { OnOk result (Trades self.old self.new (get K.eq self.old key) (Some value)) }
+        ensures refused { OnErr result (IsRefusedPair K.eq self.old self.new key) }
+        ensures handed_back { IfErr result (λ refused. refused.0 ≡ (key, value)) }
+        ensures memory { GrowsAsNeeded self.old self.new }
     {
         match self.slot_under(hash, &key) {
             Some(slot) => Ok(Some(mem::replace(self.value_at_mut(slot), value))),

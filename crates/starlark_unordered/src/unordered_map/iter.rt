@@ -1,9 +1,14 @@
-//! The walks of an `UnorderedMap`, in an order that nothing promises.
-ghost use Rattle.std.specs.Prelude.{◌≡◌, IfOk, IsPermutation};
-ghost use Rattle.std.specs.Map.Iter.{deref_pair};
-ghost use Rattle.starlark_unordered.specs.Pairs.{pairs_of};
-ghost use Rattle.starlark_unordered.specs.MapValues.{CanMapValues, MapsEach};
-ghost use Rattle.starlark_unordered.specs.Iter.{ShowsKeys, ShowsPairs, ShowsSorted, ShowsValues, WalksPairs, WalksValues};
+//! The iterators of an `UnorderedMap`, in an order that nothing promises.
+ghost use Rattle.std.specs.Prelude.{◌≡◌, ◌<◌, ◌≤◌, ◌+◌, ◌^◌, [], IfErr, IfOk, IsOk, IsPermutation, IsSortedByKey, List, length, map};
+ghost use Rattle.std.specs.Map.{keys_of, values_of};
+ghost use Rattle.std.specs.Map.Iter.{deref, deref_pair, ShowsInOrder};
+ghost use Rattle.std.specs.Option.{option_map};
+ghost use Rattle.starlark_table.specs.Growth.{most_for};
+ghost use Rattle.starlark_table.specs.Table.{table_len};
+ghost use Rattle.starlark_unordered.specs.Lookup.{get};
+ghost use Rattle.starlark_unordered.specs.Pairs.{pairs_of, HasDistinctKeys};
+ghost use Rattle.starlark_unordered.specs.MapValues.{CanMapValues, GivesChange, MapsValues};
+ghost use Rattle.starlark_unordered.specs.Iter.{AreFound};
 ghost use Rattle.std.specs.Borrow.{sem};
 ghost use Rattle.starlark_unordered.specs.Lend.{values_follow};
 
@@ -21,7 +26,10 @@ impl<K: Eq + Hash, V> UnorderedMap<K, V> {
     /// The pairs, each once, with exact length and size hint. No two keys are equal.
     #[inline]
     pub fn entries_unordered(&self) -> Entries<'_, K, V>
-        ensures shows { ShowsPairs K.eq self.now result }
+        ensures pairs { result ≡ pairs_of self.now }
+        ensures distinct { HasDistinctKeys K.eq (pairs_of self.now) }
+        ensures fits { length (pairs_of self.now) < 2 ^ 64 }
+        ensures runs { ShowsInOrder (deref_pair {K = K} {X = V}) }
     {
         // The number of pairs is a `usize`, as `fits` says.
         prove!(self.table.len() <= usize::MAX);
@@ -31,7 +39,9 @@ impl<K: Eq + Hash, V> UnorderedMap<K, V> {
     /// The keys, each once, with exact length and size hint.
     #[inline]
     pub fn keys_unordered(&self) -> KeysUnordered<'_, K, V>
-        ensures shows { ShowsKeys self.now result }
+        ensures keys { result ≡ keys_of (pairs_of self.now) }
+        ensures fits { length (pairs_of self.now) < 2 ^ 64 }
+        ensures runs { ShowsInOrder (deref {X = K}) }
     {
         KeysUnordered::new(self.entries_unordered())
     }
@@ -39,7 +49,10 @@ impl<K: Eq + Hash, V> UnorderedMap<K, V> {
     /// The values, each once for its key, with exact length and size hint.
     #[inline]
     pub fn values_unordered(&self) -> ValuesUnordered<'_, K, V>
-        ensures shows { ShowsValues K.eq self.now result }
+        ensures values { result ≡ values_of (pairs_of self.now) }
+        ensures found { AreFound K.eq (pairs_of self.now) result }
+        ensures fits { length (pairs_of self.now) < 2 ^ 64 }
+        ensures runs { ShowsInOrder (deref {X = V}) }
     {
         ValuesUnordered::new(self.entries_unordered())
     }
@@ -48,7 +61,8 @@ impl<K: Eq + Hash, V> UnorderedMap<K, V> {
     pub fn entries_sorted(&self) -> Result<Vec<(&K, &V)>, AllocError>
     where
         K: Ord,
-        ensures sorted { IfOk result (λ entries. ShowsSorted deref_pair (λ entry. entry.0.now) K.cmp (pairs_of self.now) entries.items) }
+        ensures each { IfOk result (λ entries. IsPermutation (pairs_of self.now) (map deref_pair entries.items)) }
+        ensures ascends { IfOk result (λ entries. IsSortedByKey (λ entry. entry.0.now) K.cmp entries.items) }
     {
         let mut entries = Vec::from_iter(self.alloc, self.entries_unordered())?;
         entries.sort_by(|a, b| a.0.cmp(b.0))?;
@@ -80,7 +94,15 @@ impl<K: Eq + Hash, V> UnorderedMap<K, V> {
         V: Drop,
         W: Drop,
         requires { CanMapValues F.FnMut (pairs_of self) f }
-        ensures maps { MapsEach F.FnMut K.eq f self result }
+        // Done: `f` was called on each value in turn, and the keys stay.
+        ensures mapped { IfOk result (λ map. (last : F) × (mapped : List (K × W)) × MapsValues F.FnMut f (pairs_of self) mapped last × IsPermutation mapped (pairs_of map)) }
+        ensures count { IfOk result (λ map. length (pairs_of map) ≡ length (pairs_of self)) }
+        // Where each call gives this change of the value, and leaves `f` as it was, look-ups find what was there, changed.
+        ensures changed { (change : V → W) → GivesChange F.FnMut f change → IfOk result (λ map. (key : K) → get K.eq map key ≡ option_map change (get K.eq self key)) }
+        ensures room { IfOk result (λ map. table_len map + map.room ≤ most_for (table_len self)) }
+        // Refused: the map comes back. An empty one is not refused.
+        ensures handed_back { IfErr result (λ map. map ≡ self) }
+        ensures none_for_none { pairs_of self ≡ [] → IsOk result }
     {
         let UnorderedMap { table, alloc } = self;
         let Ok(mut mapped) = ReadyTable::keeping(alloc, table.len()) else {
@@ -98,7 +120,9 @@ impl<K: Eq + Hash, V> UnorderedMap<K, V> {
     #[inline]
     pub fn entries_unordered_mut(&mut self) -> EntriesMut<'_, K, V>
         ensures* writes_back { sem 𝓛 (values_follow K.row V.row K.Hash self.entry result.1) }
-        ensures walks { WalksPairs K.eq self.old result.0 }
+        ensures pairs { result.0 ≡ pairs_of self.old }
+        ensures distinct { HasDistinctKeys K.eq (pairs_of self.old) }
+        ensures fits { length (pairs_of self.old) < 2 ^ 64 }
     {
         self.table.pairs_mut()
     }
@@ -108,7 +132,8 @@ impl<K: Eq + Hash, V> UnorderedMap<K, V> {
     #[inline]
     pub fn values_unordered_mut(&mut self) -> ValuesUnorderedMut<'_, K, V>
         ensures* writes_back { sem 𝓛 (values_follow K.row V.row K.Hash self.entry result.1) }
-        ensures walks { WalksValues self.old result.0 }
+        ensures values { values_of result.0 ≡ values_of (pairs_of self.old) }
+        ensures fits { length (pairs_of self.old) < 2 ^ 64 }
     {
         ValuesUnorderedMut::new(self.entries_unordered_mut())
     }

@@ -1,20 +1,30 @@
-//! What takes pairs out of an `UnorderedMap`.
-ghost use Rattle.std.specs.Prelude.{◌+◌};
+//! Removal from an `UnorderedMap`.
+ghost use Rattle.std.specs.Prelude.{◌≡◌, ◌+◌, [], IfNone, IfSome, None, if◌then◌else◌, length};
 ghost use Rattle.starlark_table.specs.Table.{table_len};
-ghost use Rattle.starlark_unordered.specs.New.{IsEmptyWith};
-ghost use Rattle.starlark_unordered.specs.Remove.{Removes};
+ghost use Rattle.starlark_unordered.specs.Lookup.{contains, get, IsEmpty, Trades, Writes};
+ghost use Rattle.starlark_unordered.specs.Pairs.{pairs_of, IsWithout};
 
 use super::UnorderedMap;
 use starlark_hash::{HashQuery, StarlarkHashValue};
 use std::hash::Hash;
 
 impl<K: Eq + Hash, V> UnorderedMap<K, V> {
-    /// Takes the pair of the key out, and answers its value. The other pairs stay, and the room comes back. Where the
+    /// Removes the pair of the key, and answers its value. The other pairs stay, and the room comes back. Where the
     /// map lacks the key, nothing changes.
     pub fn remove<Q: HashQuery<K>>(&mut self, query: Q) -> Option<V>
     where
         K: Drop,
-        ensures removes { Removes K.eq (Q.stands_for query) self.old self.new result }
+        // The key's old value comes back, if it had one.
+        ensures value { result ≡ get Q.stands_for self.old query }
+        // The key has no value, and each other key what it had. As a list, one pair fewer, if it was there; how many
+        // there are, and what the values weigh together, follows.
+        ensures updates { Writes K.eq (Q.stands_for query) self.old self.new None }
+        ensures pairs { IfSome result (λ value. IsWithout (Q.stands_for query) value (pairs_of self.old) (pairs_of self.new)) }
+        ensures count { length (pairs_of self.old) ≡ length (pairs_of self.new) + (if contains Q.stands_for self.old query then 1 else 0) }
+        ensures total { Trades self.old self.new result None }
+        ensures unchanged { IfNone result (self.new ≡ self.old) }
+        // The pair's room came back.
+        ensures room { table_len self.new + self.new.room ≡ table_len self.old + self.old.room }
     {
         match self.slot_under(StarlarkHashValue::new(&query), query) {
             Some(slot) => {
@@ -25,13 +35,15 @@ impl<K: Eq + Hash, V> UnorderedMap<K, V> {
         }
     }
 
-    /// Takes every pair out. The room comes back.
-    #[tactic(auto, using(crate::proofs::Callers::callers), unfolding(crate::specs::Lookup::found))]
+    /// Removes every pair. The room comes back.
+    #[tactic(auto, using(crate::proofs::Callers::callers))]
     pub fn clear(&mut self)
     where
         K: Drop,
         V: Drop,
-        ensures cleared { IsEmptyWith (table_len self.old + self.old.room) self.new }
+        ensures empty { pairs_of self.new ≡ [] }
+        ensures found { IsEmpty self.new }
+        ensures room { self.new.room ≡ table_len self.old + self.old.room }
     {
         self.table.clear();
     }

@@ -1,15 +1,15 @@
 //! The pairs of an `UnorderedMap` by their slots, on which the calls and the entries are written.
-ghost use Rattle.std.specs.Prelude.{◌≡◌, ◌<◌, true, None, Some, Ok, IfSome};
+ghost use Rattle.std.specs.Prelude.{◌≡◌, ◌<◌, true, None, Some, IfErr, IfOk, IfSome, OnErr, OnOk};
 ghost use Rattle.std.specs.Borrow.{sem};
 ghost use Rattle.std.specs.Fn.{CalledAt, TakesAt};
-ghost use Rattle.std.specs.Map.{lookup};
 ghost use Rattle.std.specs.Option.{is_some, option_copied, option_map};
 ghost use Rattle.starlark_hash.specs.Hasher.{own_hash};
 ghost use Rattle.starlark_hash.specs.HashValue.{hash_number, promoted};
 ghost use Rattle.starlark_hash.specs.Search.{CanSearch};
-ghost use Rattle.starlark_table.specs.Table.{item_in};
+ghost use Rattle.starlark_table.specs.Table.{GrowsAsNeeded, item_in};
 ghost use Rattle.starlark_table.specs.Layout.{IsVacancy};
-ghost use Rattle.starlark_unordered.specs.Insert.{AddsAt};
+ghost use Rattle.starlark_unordered.specs.Insert.{AddsPair, IsRefusedPair};
+ghost use Rattle.starlark_unordered.specs.Lookup.{found, get};
 ghost use Rattle.starlark_unordered.specs.Remove.{TakesSlot};
 ghost use Rattle.starlark_unordered.specs.Pairs.{pairs_of, keys_under, under_own, IsSlotOf};
 ghost use Rattle.starlark_unordered.specs.RawEntry.{Accepts, PutsKey};
@@ -59,7 +59,7 @@ impl<K: Eq + Hash, V> UnorderedMap<K, V> {
         query: Q,
     ) -> Option<&(K, V)>
         requires { hash ≡ own_hash Q.hash_input query }
-        ensures { option_map (λ p. p.1) (option_copied result) ≡ lookup (Q.stands_for query) (pairs_of self.now) }
+        ensures { option_map (λ p. p.1) (option_copied result) ≡ get Q.stands_for self.now query }
     {
         self.table
             .find_item(hash, move |p: &(K, V)| query.stands_for(&p.0))
@@ -72,7 +72,7 @@ impl<K: Eq + Hash, V> UnorderedMap<K, V> {
         hash: StarlarkHashValue,
         query: Q,
     ) -> Option<&(K, V)>
-        ensures { option_map (λ p. p.1) (option_copied result) ≡ lookup (under_own K.hash_input hash (Q.stands_for query)) (pairs_of self.now) }
+        ensures { option_map (λ p. p.1) (option_copied result) ≡ found (under_own K.hash_input hash (Q.stands_for query)) (pairs_of self.now) }
     {
         // As in `slot_hashed`.
         prove!(hash.get() <= u32::MAX);
@@ -112,7 +112,7 @@ impl<K: Eq + Hash, V> UnorderedMap<K, V> {
         requires { hash ≡ own_hash Q.hash_input query }
         ensures room { IfSome result (λ _. 0 < self.now.room) }
         ensures vacant { IfSome result (λ slot. IsVacancy (promoted (hash_number hash)) self.now.slots slot) }
-        ensures absent { IfSome result (λ _. lookup (Q.stands_for query) (pairs_of self.now) ≡ None) }
+        ensures lacking { IfSome result (λ _. get Q.stands_for self.now query ≡ None) }
     {
         if self.table.room() == 0 {
             return None;
@@ -126,8 +126,9 @@ impl<K: Eq + Hash, V> UnorderedMap<K, V> {
         requires own { hash ≡ own_hash K.hash_input key }
         requires room { 0 < self.old.room }
         requires vacant { IsVacancy (promoted (hash_number hash)) self.old.slots slot }
-        requires absent { lookup (K.eq key) (pairs_of self.old) ≡ None }
-        ensures puts { AddsAt K.eq self.old self.new key value (Ok slot) }
+        requires lacking { get K.eq self.old key ≡ None }
+        ensures adds { AddsPair K.eq self.old self.new key value }
+        ensures memory { GrowsAsNeeded self.old self.new }
     {
         self.table.insert_at(hash, (key, value), slot);
     }
@@ -140,73 +141,68 @@ impl<K: Eq + Hash, V> UnorderedMap<K, V> {
         value: V,
     ) -> Result<usize, NoRoom<(K, V)>>
         requires own { hash ≡ own_hash K.hash_input key }
-        requires absent { lookup (K.eq key) (pairs_of self.old) ≡ None }
-        ensures puts { AddsAt K.eq self.old self.new key value result }
+        requires lacking { get K.eq self.old key ≡ None }
+        ensures placed { IfOk result (λ slot. item_in self.new slot ≡ Some (key, value)) }
+        ensures adds { OnOk result (AddsPair K.eq self.old self.new key value) }
+        ensures refused { OnErr result (IsRefusedPair K.eq self.old self.new key) }
+        ensures handed_back { IfErr result (λ refused. refused.0 ≡ (key, value)) }
+        ensures memory { GrowsAsNeeded self.old self.new }
     {
         self.table.insert_unique(hash, (key, value))
     }
 
     // The value in a slot.
+    #[tactic(auto, using(crate::proofs::Keys::full_slots))]
     #[inline]
     pub(crate) fn value_at(&self, slot: usize) -> &V
         requires { is_some (item_in self.now slot) ≡ true }
         ensures { option_map (λ p. p.1) (item_in self.now slot) ≡ Some result.now }
     {
-        match self.table.get(slot) {
-            Some(pair) => &pair.1,
-            None => unreachable!(),
-        }
+        &self.table.get_unchecked(slot).1
     }
 
     // The value in a slot, to be written.
-    #[tactic(auto, using(crate::proofs::Keys::written_items))]
+    #[tactic(auto, using(crate::proofs::Keys::full_slots))]
     #[inline]
     pub(crate) fn value_at_mut(&mut self, slot: usize) -> &mut V
         requires { is_some (item_in self.old slot) ≡ true }
         ensures* writes_back { sem 𝓛 (lends_value K.row V.row K.Hash self.entry slot result) }
         ensures value { option_map (λ p. p.1) (item_in self.old slot) ≡ Some result.now }
     {
-        match self.table.get_mut(slot) {
-            Some(pair) => &mut pair.1,
-            None => unreachable!(),
-        }
+        &mut self.table.get_unchecked_mut(slot).1
     }
 
-    // Takes the pair of a slot out.
+    // Removes the pair of a slot.
+    #[tactic(auto, using(crate::proofs::Keys::full_slots))]
     pub(crate) fn take_out(&mut self, slot: usize) -> (K, V)
         requires { is_some (item_in self.old slot) ≡ true }
-        ensures takes { TakesSlot K.eq slot result self.old self.new }
+        ensures takes { TakesSlot K.eq self.old self.new slot result }
     {
-        match self.table.remove(slot) {
-            Some((_, pair)) => pair,
-            None => unreachable!(),
-        }
+        let (_, pair) = self.table.remove_unchecked(slot);
+        pair
     }
 
     // The pair in a slot, its value to be written.
-    #[tactic(auto, using(crate::proofs::Keys::written_items))]
+    #[tactic(auto, using(crate::proofs::Keys::full_slots))]
     #[inline]
     pub(crate) fn pair_at_mut(&mut self, slot: usize) -> (&K, &mut V)
         requires { is_some (item_in self.old slot) ≡ true }
         ensures* writes_back { sem 𝓛 (lends_value K.row V.row K.Hash self.entry slot result.1) }
         ensures pair { item_in self.old slot ≡ Some (result.0.now, result.1.now) }
     {
-        let Some(pair) = self.table.get_mut(slot) else {
-            unreachable!()
-        };
+        let pair = self.table.get_unchecked_mut(slot);
         (&pair.0, &mut pair.1)
     }
 
     // Puts an equal key in the place of the one in a slot, which is answered.
+    #[tactic(auto, using(crate::proofs::Keys::full_slots))]
     #[inline]
     pub(crate) fn replace_key(&mut self, slot: usize, key: K) -> K
         requires there { is_some (item_in self.old slot) ≡ true }
         requires equal { IfSome (item_in self.old slot) (λ p. K.eq key p.0 ≡ true) }
         ensures puts { PutsKey slot key result self.old self.new }
     {
-        match self.table.get_mut(slot) {
-            Some(pair) => mem::replace(&mut pair.0, key),
-            None => unreachable!(),
-        }
+        let pair = self.table.get_unchecked_mut(slot);
+        mem::replace(&mut pair.0, key)
     }
 }

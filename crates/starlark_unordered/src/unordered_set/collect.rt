@@ -1,6 +1,8 @@
 //! `UnorderedSet`s from the items of iterators.
-ghost use Rattle.std.specs.Iterator.{IsFiniteIterable};
-ghost use Rattle.starlark_unordered.specs.Collect.{MakesSet};
+ghost use Rattle.std.specs.Iterator.{IsFiniteIterable, size};
+ghost use Rattle.std.specs.Prelude.{◌≡◌, IfOk, IsOk};
+ghost use Rattle.starlark_hash.specs.Unit.{StepsBeside};
+ghost use Rattle.starlark_unordered.specs.Collect.{HasEachItem, IsCollected};
 
 use super::UnorderedSet;
 use crate::unordered_map::UnorderedMap;
@@ -14,7 +16,9 @@ impl<T: Eq + Hash + Drop> UnorderedSet<T> {
     /// dropped. Without items it is not refused. The iterator must end.
     pub fn from_iter<I: IntoIterator<Item = T>>(alloc: Global, iter: I) -> Result<Self, AllocError>
         requires { IsFiniteIterable I.into_iter_gives I.IntoIter.can_next I.IntoIter.remaining iter }
-        ensures makes { MakesSet T.eq I.IntoIter.next_gives I.into_iter_gives I.IntoIter.remaining iter result }
+        ensures found { IfOk result (λ set. HasEachItem T.eq I.IntoIter.next_gives I.into_iter_gives iter set) }
+        ensures pairs { IfOk result (λ set. IsCollected T.eq (StepsBeside I.IntoIter.next_gives) I.into_iter_gives I.IntoIter.remaining iter set) }
+        ensures none_for_none { ((it : I.IntoIter) → I.into_iter_gives iter it → size (I.IntoIter.remaining it) ≡ 0) → IsOk result }
     {
         Ok(UnorderedSet {
             map: UnorderedMap::from_iter(alloc, WithUnit::new(iter.into_iter()))?,

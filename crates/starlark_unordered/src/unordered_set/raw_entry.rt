@@ -1,16 +1,15 @@
 //! Slots of a set that a query, or a hash and a closure choose: those of its map.
-ghost use Rattle.std.specs.Prelude.{◌≡◌, true, Some, None, IfSome};
+ghost use Rattle.std.specs.Prelude.{◌≡◌, ◌+◌, ◌∷◌, true, Some, None, IfErr, IfSome, IsPermutation, OnErr, OnOk};
 ghost use Rattle.std.specs.Borrow.{sem};
-ghost use Rattle.std.specs.Map.{lookup};
 ghost use Rattle.std.specs.Option.{is_some};
 ghost use Rattle.starlark_hash.specs.HashValue.{hash_of, key_of};
 ghost use Rattle.starlark_hash.specs.Hasher.{own_hash};
-ghost use Rattle.starlark_hash.specs.Search.{CanSearch};
-ghost use Rattle.starlark_table.specs.Table.{item_in};
-ghost use Rattle.starlark_unordered.specs.Insert.{Adds};
-ghost use Rattle.starlark_unordered.specs.Remove.{TakesOut};
+ghost use Rattle.starlark_hash.specs.Search.{CanSearch, Searches};
+ghost use Rattle.starlark_table.specs.Table.{GrowsAsNeeded, item_in, table_len};
+ghost use Rattle.starlark_unordered.specs.Insert.{AddsPair, IsRefusedPair};
+ghost use Rattle.starlark_unordered.specs.Lookup.{get};
 ghost use Rattle.starlark_unordered.specs.Pairs.{pairs_of, keys_under, under_own};
-ghost use Rattle.starlark_unordered.specs.RawEntry.{NamesAccepted, NamesSlot};
+ghost use Rattle.starlark_unordered.specs.RawEntry.{HoldsMap, IsInPlace, NamesSlot};
 
 use super::UnorderedSet;
 use crate::unordered_map::UnorderedMap;
@@ -113,7 +112,9 @@ impl<'a, T: Eq + Hash> RawEntryBuilderMut<'a, T> {
         is_match: F,
     ) -> RawEntryMut<'a, T>
         requires { CanSearch F.FnMut (keys_under T.hash_input hash self.map.now) is_match }
-        ensures names { NamesAccepted F.FnMut T.hash_input hash is_match self.entry.map (set_of_raw result) (slot_of_entry result) }
+        ensures holds { HoldsMap self.entry.map (set_of_raw result) }
+        // The slot of a key of this own hash that the closure accepts, or none where it refuses them all.
+        ensures found { (last : F) × Searches F.FnMut (keys_under T.hash_input hash self.entry.map.now) is_match (slot_of_entry result) last }
     {
         let RawEntryBuilderMut { map } = self;
         match map.slot_accepted(hash, is_match) {
@@ -124,12 +125,14 @@ impl<'a, T: Eq + Hash> RawEntryBuilderMut<'a, T> {
 }
 
 impl<T: Eq + Hash> RawOccupiedEntryMut<'_, T> {
-    ghost use Rattle.starlark_unordered.specs.SetRawEntry.{stored_element, Replaces};
+    ghost use Rattle.starlark_unordered.specs.SetRawEntry.{stored_element, with_raw_element};
 
     /// Takes the element out, and answers it. The others stay, and the room comes back.
     #[inline]
     pub fn remove(self) -> T
-        ensures takes { TakesOut (stored_element self.entry) result (Some (result, tt)) self.entry.map.now self.exit.0.now }
+        ensures element { stored_element self.entry ≡ Some result }
+        ensures pairs { IsPermutation (pairs_of self.entry.map.now) ((result, tt) ∷ pairs_of self.exit.0.now) }
+        ensures room { table_len self.exit.0.now + self.exit.0.now.room ≡ table_len self.entry.map.now + self.entry.map.now.room }
     {
         let slot = self.slot;
         let (element, _) = self.map.take_out(slot);
@@ -141,7 +144,11 @@ impl<T: Eq + Hash> RawOccupiedEntryMut<'_, T> {
     #[inline]
     pub fn insert(&mut self, element: T) -> T
         requires { IfSome (stored_element self.old) (λ there. T.eq element there ≡ true) }
-        ensures replaces { Replaces element result self.old self.new }
+        ensures old { stored_element self.old ≡ Some result }
+        ensures new { self.new ≡ with_raw_element self.old element }
+        ensures shown { stored_element self.new ≡ Some element }
+        ensures elements { IsInPlace (result, tt) (element, tt) (pairs_of self.old.map.now) (pairs_of self.new.map.now) }
+        ensures room { self.new.map.now.room ≡ self.old.map.now.room }
     {
         let slot = self.slot;
         self.map.replace_key(slot, element)
@@ -152,8 +159,14 @@ impl<T: Eq + Hash> RawVacantEntryMut<'_, T> {
     /// Puts an element in under its own hash, and lends nothing. That the set lacks it is required. It is refused where
     /// there is no room and no memory is found: then it comes back, and the set is as it was.
     pub fn insert(self, element: T) -> Result<(), NoRoom<T>>
-        requires { lookup (T.eq element) (pairs_of self.map.now) ≡ None }
-        ensures adds { Adds T.eq self.entry.map.now self.exit.0.now element tt element result }
+        requires { get T.eq self.map.now element ≡ None }
+        // Done: one element more.
+        ensures adds { OnOk result (AddsPair T.eq self.entry.map.now self.exit.0.now element tt) }
+        // Refused: only at room 0. The element comes back, and the set is as it was.
+        ensures refused { OnErr result (IsRefusedPair T.eq self.entry.map.now self.exit.0.now element) }
+        ensures handed_back { IfErr result (λ refused. refused.0 ≡ element) }
+        // It grows only for an element that does not fit.
+        ensures memory { GrowsAsNeeded self.entry.map.now self.exit.0.now }
     {
         let RawVacantEntryMut { map } = self;
         let hash = StarlarkHashValue::new(&element);
@@ -163,11 +176,18 @@ impl<T: Eq + Hash> RawVacantEntryMut<'_, T> {
         }
     }
 
-    /// The same under the element's own hash, which is brought; that it is its own is required.
+    /// Puts an element in under its own hash, which is supplied; that it is its own, and that the set lacks the element,
+    /// is required. It is refused, and comes back, as by `insert`.
     pub fn insert_hashed(self, element: Hashed<T>) -> Result<(), NoRoom<Hashed<T>>>
         requires own { hash_of element ≡ own_hash T.hash_input (key_of element) }
-        requires absent { lookup (T.eq (key_of element)) (pairs_of self.map.now) ≡ None }
-        ensures adds { Adds T.eq self.entry.map.now self.exit.0.now (key_of element) tt element result }
+        requires lacking { get T.eq self.map.now (key_of element) ≡ None }
+        // Done: one element more.
+        ensures adds { OnOk result (AddsPair T.eq self.entry.map.now self.exit.0.now (key_of element) tt) }
+        // Refused: only at room 0. The element comes back with its hash, and the set is as it was.
+        ensures refused { OnErr result (IsRefusedPair T.eq self.entry.map.now self.exit.0.now (key_of element)) }
+        ensures handed_back { IfErr result (λ refused. refused.0 ≡ element) }
+        // It grows only for an element that does not fit.
+        ensures memory { GrowsAsNeeded self.entry.map.now self.exit.0.now }
     {
         let RawVacantEntryMut { map } = self;
         let hash = element.hash();

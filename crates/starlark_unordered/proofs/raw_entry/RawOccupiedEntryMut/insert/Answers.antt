@@ -5,4 +5,4 @@ use Rattle.starlark_unordered.proofs.raw_entry.RawOccupiedEntryMut.insert.Goals 
 pub returns : goal.returns
 returns g c =
     let pairs = value_in_place c.args.self.now.map.now c.args.self.now.slot c.args.value in
-    record { replaces = first_of (search (rules, pairs), grind (arith, common_steps, pairs)) }
+    first_of (search (rules, pairs), grind (arith, common_steps, pairs))

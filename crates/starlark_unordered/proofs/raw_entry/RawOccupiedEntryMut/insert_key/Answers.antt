@@ -5,4 +5,4 @@ pub returns : goal.returns
 returns g c =
     let o = c.args.self.now in
     let put = c.replace_key.ensures.puts in
-    record { replaces = record { old = put.old; new = raw_key_put o c.args.key c.replace_key.new.self put.new _; pairs = rw put.new (key_in_place o.map.now o.slot c.args.key) } }
+    record { old = put.old; new = raw_key_put o c.args.key c.replace_key.new.self put.new _; pairs = rw put.new (key_in_place o.map.now o.slot c.args.key) }

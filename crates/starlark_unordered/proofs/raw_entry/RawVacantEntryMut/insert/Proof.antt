@@ -1,6 +1,6 @@
 -- `insert` meets its contract, at any types. Assumes `Logic`.
-use Rattle.starlark_columns.proofs.Walking.{◌≡◌, refl, [], ◌∷◌, fact, Ty, a_type, bounded, dcons, dnil, tcons, tnil, ty_struct, RattleType, arg, arg_laws, layout, yes, param, param_laws, None, lookup}
-use Rattle.starlark_unordered.specs.Pairs.{pairs_of}
+use Rattle.starlark_columns.proofs.Walking.{◌≡◌, refl, [], ◌∷◌, fact, Ty, a_type, bounded, dcons, dnil, tcons, tnil, ty_struct, RattleType, arg, arg_laws, layout, yes, param, param_laws, None}
+use Rattle.starlark_unordered.specs.Pairs.{found, pairs_of}
 use Rattle.starlark_unordered.proofs.InsertLent.{Handed, handed_laws, inserts}
 use Rattle.starlark_unordered.proofs.raw_entry.RawVacantEntryMut.place as place
 use Rattle.starlark_unordered.proofs.raw_entry.lend_placed as lend
@@ -13,7 +13,7 @@ insert_spec 𝓤 𝓛 𝓜 𝓡 wired K V LK LV E dE P dP G dG is_eq is_partial 
     -- the type of what is handed back, as a call passes it: without its names
     let nameless : Ty = ty_struct [] (tcons (ty_struct [] (tcons (layout K) (tcons (layout V) tnil))) tnil) in let Passed = arg nameless yes (Handed V Key) in
     inserts K V Key nameless (λ key. key) E dE P dP G dG 𝓛 𝓜 𝓡
-    (λ m key. fact 𝓤 (lookup (P.eq key) (pairs_of m) ≡ None))
+    (λ m key. fact 𝓤 (found (P.eq key) (pairs_of m) ≡ None))
     LK LV LKey (λ κ within. within) (λ x f. tt) (place.Symbol.name args) (lend.Symbol.name (bounded (a_type ∷ a_type ∷ a_type ∷ []) (K, (V, (Passed, tt))) ds))
     (place.Met.met 𝓤 𝓛 𝓜 𝓡 (routine.Code.calls-starlark_unordered::raw_entry::RawVacantEntryMut::place 𝓡.env wired) K V LK LV E dE P dP G dG is_eq is_partial is_hash)
     (lend.Met.met 𝓤 𝓛 𝓜 𝓡 (routine.Code.calls-starlark_unordered::raw_entry::lend_placed 𝓡.env wired) K V Passed LK LV (arg_laws nameless yes (Handed V Key) (handed_laws V Key LV LKey) refl) E dE P dP G dG is_eq is_partial is_hash)

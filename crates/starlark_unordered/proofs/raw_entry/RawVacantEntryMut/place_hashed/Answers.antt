@@ -11,8 +11,8 @@ returns g c =
     let held : MutBor (Table (g.row.K.Denot × g.row.V.Denot)) = record lent { now = c.insert_new.new.self } in
     let key = c.into_key.result in
     let value = c.args.value in
-    let puts = c.insert_new.ensures.puts in
-    let put = rw c.into_key.ensures at (puts_pair g.K.PartialEq.eq g.met.K.Eq.laws lent held key value (key, value) c.insert_new.result (rw c.into_key.ensures c.requires.absent) refl puts.placed puts.adds) in
+    let puts = c.insert_new.ensures in
+    let put = rw c.into_key.ensures at (puts_pair g.K.PartialEq.eq g.met.K.Eq.laws lent held key value (key, value) c.insert_new.result (rw c.into_key.ensures c.requires.lacking) refl puts.placed puts.adds puts.refused puts.handed_back puts.memory) in
     elim c.match-insert_new.branch [
       | in-Ok w ↦ rw w.placed-is (assumption (rw w.in-Ok.is at put))
       | in-Err w ↦

@@ -1,4 +1,4 @@
-use Rattle.starlark_hash.proofs.Common.{arith, refl, rules, common_steps}
+use Rattle.starlark_hash.proofs.Common.{arith, rules, common_steps}
 use Rattle.starlark_hash.specs.Clone.{IsLawfulClone}
 use Rattle.starlark_unordered.proofs.Agreeing.{found-cloned, pairs-cloned, keyed-cloned}
 use Rattle.starlark_unordered.proofs.unordered_map.UnorderedMap.clone.Goals as goal
@@ -15,4 +15,4 @@ returns g c =
     let pairs = rw c.self.view_is at (pairs-cloned key value _ _ c.in_ok-clone.ensures.cases.slots) in
     let same = λ (keys : IsLawfulClone key) (values : IsLawfulClone value). entries_from_clone key value keys values _ _ pairs in
     let found = found-cloned g.K.PartialEq.eq g.met.K.Eq.laws key value c.requires _ _ pairs in
-    record { clones = record { clone = first_of (search (rules, pairs, same, found), grind (arith, common_steps, pairs, same, found)); none_for_none = λ none spare. refl } }
+    first_of (search (rules, pairs, same, found), grind (arith, common_steps, pairs, same, found))

@@ -9,9 +9,7 @@ returns g c =
     let same = drained_shown deref_pair shown items ((runs.2 tt).0, (runs.0, runs.1, (runs.2 tt).1)) in
     let lt = λ (a b : Bor g.row.K.Denot × Bor g.row.V.Denot). is_lt (g.K.Ord.cmp a.0.now b.0.now) in
     record {
-      sorted = record {
-        each = rw (made.0, same, begins, c.entries_unordered.ensures.shows.walks.pairs) at (IsPermutation-map deref_pair _ _ c.sort_by.ensures.permutation);
-        ascends = c.in_ok-sort_by.ensures.sorted lt (ranks_by g.met.K.Ord.total (λ a. a.0.now))
-            (answers_by _ (λ a r. is_lt r ≡ lt a.0.now a.1.0.now) (λ _. Unit {0}) (λ f a r f' called _. (search (rules, of_calls, called), tt)) _ tt);
-      };
+      each = rw (made.0, same, begins, c.entries_unordered.ensures.pairs) at (IsPermutation-map deref_pair _ _ c.sort_by.ensures.permutation);
+      ascends = c.in_ok-sort_by.ensures.sorted lt (ranks_by g.met.K.Ord.total (λ a. a.0.now))
+          (answers_by _ (λ a r. is_lt r ≡ lt a.0.now a.1.0.now) (λ _. Unit {0}) (λ f a r f' called _. (search (rules, of_calls, called), tt)) _ tt);
     }

@@ -17,7 +17,6 @@ use Rattle.starlark_columns.proofs.NamedClose.{closes_named}
 use Rattle.starlark_columns.proofs.Steps.{good_value}
 use Rattle.starlark_table.proofs.WalkRenamed.{renamed}
 use Rattle.starlark_unordered.specs.Pairs.{pairs_of, HasDistinctKeys}
-use Rattle.starlark_unordered.specs.Iter.{WalksPairs}
 use Rattle.starlark_unordered.specs.Sound.{IsKeyed}
 use Rattle.starlark_unordered.proofs.Keys.{distinct_pairs}
 use Rattle.starlark_unordered.proofs.UnorderedMapOpen as O
@@ -81,9 +80,7 @@ entries_unordered_mut_spec {M} 𝓤 𝓛 𝓜 𝓡 wired A B LA LB E dE P dP G d
     -- [the walk; the tokens of κ, κA, κB; nothing; what the map follows]
     peeks ! It _ (shows 𝓛 It) x (u ∷ []) (λ is. lands_as ! refl refl (good_value 𝓛 It (pairs_laws.the_row_laws lft K V hash_row kept.ghosts LK LV hash_laws.the_row_laws) x u is) $
     let new : It.Denot = (x.0, tie) in use1 𝓛 (‵ (It.own_val new (u ∷ []))) (renamed lft K V hash_row kept.ghosts 𝓛 x tie (u ∷ [])) $ returns ! (look_at ! 0 refl) $ free_all ! refl $
-    move ! (1 ∷ 2 ∷ 3 ∷ 4 ∷ []) $ group ! 4 $ tells ! (WalksPairs P.eq v x.0) (record {
-      pairs = walked ∙ ap pairs_of d'.1.0;
-      distinct = subst (λ m. HasDistinctKeys P.eq (pairs_of m)) d'.1.0 (distinct_pairs P.eq G.hash_input (members xs) d'.1.1);
-      fits = subst (λ m. length (pairs_of m) < 2 ^ 64) d'.1.0 fits;
-    }) $
+    move ! (1 ∷ 2 ∷ 3 ∷ 4 ∷ []) $ group ! 4 $ tells ! (length (pairs_of v) < 2 ^ 64) (subst (λ m. length (pairs_of m) < 2 ^ 64) d'.1.0 fits) $
+    tells ! (HasDistinctKeys P.eq (pairs_of v)) (subst (λ m. HasDistinctKeys P.eq (pairs_of m)) d'.1.0 (distinct_pairs P.eq G.hash_input (members xs) d'.1.1)) $
+    tells ! (x.0 ≡ pairs_of v) (walked ∙ ap pairs_of d'.1.0) $ group ! 3 $
     move ! (3 ∷ 0 ∷ []) $ join ! $ spent ! 1 $ move ! (2 ∷ 0 ∷ 3 ∷ 1 ∷ []) $ by ! (leaves 𝓛 En hs c y u new (tt, tt) (tt, tt)))))))))))))))

@@ -6,5 +6,5 @@ use Rattle.starlark_unordered.proofs.unordered_map.UnorderedMap.values_unordered
 
 pub returns : goal.returns
 returns g c =
-    let found = values-found g.K.PartialEq.eq g.met.K.Eq.laws (pairs_of c.args.self.now) c.entries_unordered.ensures.shows.walks.distinct c.new.result in
+    let found = values-found g.K.PartialEq.eq g.met.K.Eq.laws (pairs_of c.args.self.now) c.entries_unordered.ensures.distinct c.new.result in
     search (rules, shows_in_order {X = g.row.V.Denot} deref, found)

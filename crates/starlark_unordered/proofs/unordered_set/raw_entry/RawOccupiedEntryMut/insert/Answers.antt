@@ -7,11 +7,9 @@ returns g c =
     let entry = c.args.self.now in
     let put = c.replace_key.ensures.puts in
     record {
-      replaces = record {
-        old = put.old;
-        new = raw_element_put entry c.args.element c.replace_key.new.self put.new _;
-        shown = key_shown entry.map.now entry.slot c.args.element entry.there c.replace_key.new.self put.new;
-        elements = element_in_place entry.map.now entry.slot c.args.element c.replace_key.result _ refl put.old c.replace_key.new.self put.new;
-        room = ap (λ m. m.room) put.new;
-      };
+      old = put.old;
+      new = raw_element_put entry c.args.element c.replace_key.new.self put.new _;
+      shown = key_shown entry.map.now entry.slot c.args.element entry.there c.replace_key.new.self put.new;
+      elements = element_in_place entry.map.now entry.slot c.args.element c.replace_key.result _ refl put.old c.replace_key.new.self put.new;
+      room = ap (λ m. m.room) put.new;
     }
