@@ -25,7 +25,7 @@ module _ {K V : Type 0} where
   -- an insertion into a map with room is not refused, and takes at most one index of it
   pub HasRoom-inserted : {E : Type 0} (eq : K → K → Bool) (key : Hashed K) (value : V) (n : ℕ) (r s : Result (Map K V) E) → HasRoom (n + 1) r
       → MatchResult r (λ old. IfOk s (λ new. new.entries ≡ insert_entry eq old.entries key value)) (λ _. IsErr s)
-      → IfOk r (λ old. 0 < old.room → IsOk s) → IfOk r (λ old. IfOk s (LeavesMemory eq old key)) → HasRoom n s
+      → IfOk r (λ old. 0 < old.room → IsOk s) → IfOk r (λ old. IfOk s (λ new. LeavesMemory eq old new key)) → HasRoom n s
   HasRoom-inserted eq key value n (Err e) s room put done kept = absurd room
   HasRoom-inserted eq key value n (Ok old) (Err e) room put done kept = absurd (false≢true (done (omega (arith, room))))
   HasRoom-inserted eq key value n (Ok old) (Ok new) room put done kept = omega (arith, room, kept.room, ap length put, length_insert_le eq old.entries key value)

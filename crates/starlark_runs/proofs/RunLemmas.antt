@@ -15,6 +15,14 @@ module _ {F K V R : Type 0} (g : Shared F (Bor K × (Bor V × Unit {0})) R) (loo
   shown-by_call (Some e) key value r is met =
       record { key = key; value = value; points = some_pair_parts key.now (entry_key e) value.now (entry_value e) is; met = met }
 
+  -- and such a call is allowed where every entry that is there may be shown
+  pub takes-at_call : (entry : Option (Entry K V)) (key : Bor K) (value : Bor V) → Some (key.now, value.now) ≡ option_map pair_of entry → ((e : Entry K V) → entry ≡ Some e → TakesEntry g look e)
+      → g.pre look (key, (value, tt))
+  takes-at_call None key value is takes = absurd (none-some (key.now, value.now) (sym is))
+  takes-at_call (Some e) key value is takes =
+      let parts = some_pair_parts key.now (entry_key e) value.now (entry_value e) is in
+      takes e refl key value parts.0 parts.1
+
   module _ (eq : K → K → Bool) (cmp : K → K → Ordering) where
     -- what a run may show it may show after its first command
     pub can_show-after : (old next : List (Entry K V)) (command : Command K V) (commands : List (Command K V)) (reply : Reply K V R)

@@ -38,6 +38,7 @@ fn shown_at<K: Eq, V, R, F: Fn(&K, &V) -> R>(map: &SmallMap<K, V>, i: usize, loo
 }
 
 // Replaces the value under a hash and key, and answers the old one. Where there is none the value is dropped.
+#[tactic(auto, using(starlark_small::proofs::CallerLookup::look_ups))]
 fn change<K: Eq, V: Drop>(map: &mut SmallMap<K, V>, key: &Hashed<K>, value: V) -> Option<V>
     ensures old { result ≡ value_at map.old.entries (match_of K.eq map.old.entries key.now) }
     ensures entries { map.new.entries ≡ with_value map.old.entries (match_of K.eq map.old.entries key.now) value }
@@ -50,6 +51,7 @@ fn change<K: Eq, V: Drop>(map: &mut SmallMap<K, V>, key: &Hashed<K>, value: V) -
 }
 
 // One command.
+#[tactic(auto, using(starlark_small::proofs::CallerLookup::look_ups))]
 fn step<K: Ord + Drop, V: Drop, R, F: Fn(&K, &V) -> R>(
     map: &mut SmallMap<K, V>,
     command: Command<K, V>,

@@ -3,14 +3,16 @@ use Rattle.starlark_hash.proofs.Common.{◌≡◌, ℕ, zero, suc, ◌-◌, Bool
 use Rattle.std.specs.String.{string_cmp}
 use Rattle.starlark_hash.specs.declared.hashed.Hashed.{Hashed}
 use Rattle.starlark_hash.specs.declared.hash_value.StarlarkHashValue.{StarlarkHashValue}
-use Rattle.starlark_hash.specs.Entries.{Entry, entry_value, pair_of, entry_at, position_of, value_at, set_value_at, match_of, with_value, without}
+use Rattle.starlark_hash.specs.Entries.{Entry, entry_value, position_of, value_at, set_value_at, match_of, with_value, without}
 use Rattle.starlark_hash.specs.Insert.{insert_entry}
 use Rattle.starlark_hash.specs.HashValue.{hashed, hash_of, key_of}
+use Rattle.starlark_hash.specs.Lookup.{found}
 use Rattle.starlark_hash.specs.Sort.{Ascends, key_lt, sorted_by_key}
 use Rattle.starlark_script.specs.Line.{Key}
 use Rattle.starlark_script.specs.Replies.{bytes_cmp}
 use Rattle.starlark_script.specs.ShownEntries.{shown_entry, entries_of}
 use Rattle.starlark_hash.proofs.PositionLemmas.{position-map}
+use Rattle.starlark_small.proofs.CallerLookup.{found-value_at, position_of-found}
 use Rattle.starlark_script.proofs.Images.{remove-map, reverse-map, sorted_by-map, ascends-map}
 
 -- a search by bytes finds the same index
@@ -29,9 +31,10 @@ value_at-entries_of es (Some i) = ap (option_map entry_value) (slice_get-map sho
 
 -- the value under a string is the one under its bytes
 pub value-entries_of : (es : List (Entry (String Global) ℤ)) (hash : StarlarkHashValue) (bytes : List ℕ)
-    → value_at es (position_of hash (λ key. bytes_eq bytes (string_bytes key)) es) ≡ value_at (entries_of es) (position_of hash (bytes_eq bytes) (entries_of es))
+    → found (λ key. bytes_eq bytes (string_bytes key)) hash es ≡ value_at (entries_of es) (position_of hash (bytes_eq bytes) (entries_of es))
 value-entries_of es hash bytes =
-    sym (ap (value_at (entries_of es)) (position_of-entries_of es hash (bytes_eq bytes)) ∙ value_at-entries_of es (position_of hash (λ key. bytes_eq bytes (string_bytes key)) es))
+    found-value_at (λ key. bytes_eq bytes (string_bytes key)) hash es
+    ∙ sym (ap (value_at (entries_of es)) (position_of-entries_of es hash (bytes_eq bytes)) ∙ value_at-entries_of es (position_of hash (λ key. bytes_eq bytes (string_bytes key)) es))
 
 set_value_at-entries_of : (es : List (Entry (String Global) ℤ)) (i : ℕ) (value : ℤ) → set_value_at (entries_of es) i value ≡ entries_of (set_value_at es i value)
 set_value_at-entries_of [] i value = refl
@@ -55,7 +58,7 @@ insert_entry-entries_of es key value =
     by None = sym (entries_of-push es (key, value))
     by (Some i) = set_value_at-entries_of es i value
 
--- the same of a key that is shown so
+-- so is the insertion of a string that is shown as this key
 pub inserted : (es new : List (Entry (String Global) ℤ)) (key : Hashed (String Global)) (shown : Key) (value : ℤ)
     → new ≡ insert_entry (λ a b. bytes_eq (string_bytes a) (string_bytes b)) es key value → hash_of key ≡ hash_of shown → string_bytes (key_of key) ≡ key_of shown
     → entries_of new ≡ insert_entry bytes_eq (entries_of es) shown value
@@ -64,19 +67,20 @@ inserted es new key shown value e h k =
     ∙ ap (λ hash. insert_entry bytes_eq (entries_of es) (hashed hash (string_bytes (key_of key))) value) h
     ∙ ap (λ text. insert_entry bytes_eq (entries_of es) (hashed (hash_of shown) text) value) k
 
-pub found : (es : List (Entry (String Global) ℤ)) (key : Hashed (String Global)) (shown : Key) → hash_of key ≡ hash_of shown → string_bytes (key_of key) ≡ key_of shown
-    → value_at es (match_of (λ a b. bytes_eq (string_bytes a) (string_bytes b)) es key) ≡ value_at (entries_of es) (match_of bytes_eq (entries_of es) shown)
-found es key shown h k =
+-- the value under a string that is shown as this key
+pub value-shown : (es : List (Entry (String Global) ℤ)) (key : Hashed (String Global)) (shown : Key) → hash_of key ≡ hash_of shown → string_bytes (key_of key) ≡ key_of shown
+    → found (λ b. bytes_eq (string_bytes (key_of key)) (string_bytes b)) (hash_of key) es ≡ value_at (entries_of es) (match_of bytes_eq (entries_of es) shown)
+value-shown es key shown h k =
     value-entries_of es (hash_of key) (string_bytes (key_of key))
     ∙ ap (λ hash. value_at (entries_of es) (position_of hash (bytes_eq (string_bytes (key_of key))) (entries_of es))) h
     ∙ ap (λ text. value_at (entries_of es) (position_of (hash_of shown) (bytes_eq text) (entries_of es))) k
 
 -- a value is written by bytes under the string with these bytes, where there is one
 pub written : (es : List (Entry (String Global) ℤ)) (hash : StarlarkHashValue) (bytes : List ℕ) (old value : ℤ)
-    → Some old ≡ value_at es (position_of hash (λ key. bytes_eq bytes (string_bytes key)) es)
+    → Some old ≡ found (λ key. bytes_eq bytes (string_bytes key)) hash es
     → entries_of (with_value es (position_of hash (λ key. bytes_eq bytes (string_bytes key)) es) value) ≡ insert_entry bytes_eq (entries_of es) (hashed hash bytes) value
 written es hash bytes old value h =
-    by (position_of hash (λ key. bytes_eq bytes (string_bytes key)) es) h
+    by (position_of hash (λ key. bytes_eq bytes (string_bytes key)) es) (h ∙ found-value_at (λ key. bytes_eq bytes (string_bytes key)) hash es)
     ∙ sym (ap (λ index. option_map_or (λ i. set_value_at (entries_of es) i value) index (entries_of es ++ (hashed hash bytes, value) ∷ [])) (position_of-entries_of es hash (bytes_eq bytes)))
   where
     by : (index : Option ℕ) → Some old ≡ value_at es index
@@ -86,8 +90,8 @@ written es hash bytes old value h =
 
 -- no string with these bytes, no such bytes
 pub lacking : (es : List (Entry (String Global) ℤ)) (hash : StarlarkHashValue) (bytes : List ℕ)
-    → position_of hash (λ key. bytes_eq bytes (string_bytes key)) es ≡ None → position_of hash (bytes_eq bytes) (entries_of es) ≡ None
-lacking es hash bytes h = position_of-entries_of es hash (bytes_eq bytes) ∙ h
+    → None ≡ found (λ key. bytes_eq bytes (string_bytes key)) hash es → position_of hash (bytes_eq bytes) (entries_of es) ≡ None
+lacking es hash bytes none = position_of-entries_of es hash (bytes_eq bytes) ∙ position_of-found (λ key. bytes_eq bytes (string_bytes key)) hash es (sym none)
 
 -- a removal by bytes removes the string with these bytes
 pub removed : (es new : List (Entry (String Global) ℤ)) (hash : StarlarkHashValue) (bytes : List ℕ)
@@ -99,17 +103,6 @@ removed es new hash bytes e =
     by : (index : Option ℕ) → without (entries_of es) index ≡ entries_of (without es index)
     by None = refl
     by (Some i) = remove-map shown_entry es i
-
--- and takes the value under these bytes
-pub taken_value : (es : List (Entry (String Global) ℤ)) (hash : StarlarkHashValue) (bytes : List ℕ) (taken : Option (String Global × ℤ))
-    → taken ≡ option_map pair_of (entry_at es (position_of hash (λ key. bytes_eq bytes (string_bytes key)) es))
-    → option_map (λ p. p.1) taken ≡ value_at (entries_of es) (position_of hash (bytes_eq bytes) (entries_of es))
-taken_value es hash bytes taken h =
-    ap (option_map (λ p. p.1)) h ∙ by (entry_at es (position_of hash (λ key. bytes_eq bytes (string_bytes key)) es)) ∙ value-entries_of es hash bytes
-  where
-    by : (e : Option (Entry (String Global) ℤ)) → option_map (λ p. p.1) (option_map pair_of e) ≡ option_map entry_value e
-    by None = refl
-    by (Some e) = refl
 
 -- without the last entry
 pub popped : (es new : List (Entry (String Global) ℤ)) → new ≡ remove es (length es - 1) → entries_of new ≡ remove (entries_of es) (length (entries_of es) - 1)

@@ -10,6 +10,9 @@ use Rattle.starlark_hash.specs.declared.hashed.Hashed.{Hashed}
 use Rattle.starlark_hash.specs.Entries.{Entry, IsSingle}
 use Rattle.starlark_hash.specs.HashValue.{hash_number, hash_of, key_of, hashed}
 use Rattle.starlark_hash.specs.Hasher.{own_hash}
+use Rattle.starlark_small.proofs.CallerLookup.{found-value_at}
+use Rattle.starlark_small.specs.Insert.{Inserts, IsRefusedInsertion}
+use Rattle.starlark_small.specs.Map.{own_hashed}
 use Rattle.starlark_uses.specs.Bindings.{Scope, Bindings, IsInnermost, bindings, bound, found, lookup, scopes_of}
 use Rattle.starlark_uses.proofs.FirstValues.{first_value, value_at-position, written, first_value-written, first_value-written_apart, cut, PassesOnce, first_value-cut, first_value-cut_apart}
 
@@ -47,7 +50,8 @@ module _ {V : Type 0} where
   bound_in es name = first_value (names name) es
 
   pub bound-entries : (scope : Scope V) (name : List ℕ) → bound scope name ≡ bound_in scope.entries name
-  bound-entries scope name = value_at-position (names name) scope.entries
+  bound-entries scope name =
+      found-value_at (λ key. bytes_eq name (string_bytes key)) (own_hash fed.str name) scope.entries ∙ value_at-position (names name) scope.entries
 
   pub bound-assigned : (old new : Scope V) (key : String Global) (value : V)
       → new.entries ≡ written (hashed (own_hash fed.str (string_bytes key)) key) value old.entries (index (string_bytes key) old.entries) → bound new (string_bytes key) ≡ Some value
@@ -139,8 +143,8 @@ module _ {V : Type 0} where
 
   -- what an insertion into the innermost scope says of the look-ups
   module _ {T E : Type 0} (r : Result T E) (old new : Scope V) (around : List (Scope V)) (key : String Global) (value : V)
-      (put : OnOk r (new.entries ≡ written (hashed (own_hash fed.str (string_bytes key)) key) value old.entries (index (string_bytes key) old.entries)))
-      (refused : OnErr r ((new.entries ≡ old.entries) × (new.indexed ≡ old.indexed))) where
+      (put : OnOk r (Inserts string_eq old new (own_hashed (λ s. fed.str (string_bytes s)) key) value))
+      (refused : OnErr r (IsRefusedInsertion string_eq old new (own_hashed (λ s. fed.str (string_bytes s)) key))) where
     abbrev Stays : List ℕ → Type 0
     Stays other = lookup (bindings new around) other ≡ lookup (bindings old around) other
 
@@ -148,14 +152,14 @@ module _ {V : Type 0} where
     same_entries_same same other = ap (λ o. option_or o (found around other)) (bound-entries new other ∙ ap (λ es. bound_in es other) same ∙ sym (bound-entries old other))
 
     pub lookup_assigned : OnOk r (lookup (bindings new around) (string_bytes key) ≡ Some value)
-    lookup_assigned = elim r as (λ r. OnOk r (new.entries ≡ written (hashed (own_hash fed.str (string_bytes key)) key) value old.entries (index (string_bytes key) old.entries)) → OnOk r (lookup (bindings new around) (string_bytes key) ≡ Some value)) [
-      | Ok t ↦ λ done. ap (λ o. option_or o (found around (string_bytes key))) (bound-assigned old new key value done)
+    lookup_assigned = elim r as (λ r. OnOk r (Inserts string_eq old new (own_hashed (λ s. fed.str (string_bytes s)) key) value) → OnOk r (lookup (bindings new around) (string_bytes key) ≡ Some value)) [
+      | Ok t ↦ λ done. ap (λ o. option_or o (found around (string_bytes key))) (bound-assigned old new key value done.entries)
       | Err e ↦ λ done. done
     ] put
 
     pub lookup_assigned_other : (other : List ℕ) → (other ≡ string_bytes key → ⊥) → Stays other
     lookup_assigned_other other differ =
-        elim r as (λ r. OnOk r (new.entries ≡ written (hashed (own_hash fed.str (string_bytes key)) key) value old.entries (index (string_bytes key) old.entries)) → OnErr r ((new.entries ≡ old.entries) × (new.indexed ≡ old.indexed)) → Stays other) [
-          | Ok t ↦ λ done kept. ap (λ o. option_or o (found around other)) (bound-assigned_other old new key value other differ done)
-          | Err e ↦ λ done kept. same_entries_same kept.0 other
+        elim r as (λ r. OnOk r (Inserts string_eq old new (own_hashed (λ s. fed.str (string_bytes s)) key) value) → OnErr r (IsRefusedInsertion string_eq old new (own_hashed (λ s. fed.str (string_bytes s)) key)) → Stays other) [
+          | Ok t ↦ λ done kept. ap (λ o. option_or o (found around other)) (bound-assigned_other old new key value other differ done.entries)
+          | Err e ↦ λ done kept. same_entries_same kept.entries other
         ] put refused

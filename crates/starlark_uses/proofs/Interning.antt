@@ -120,7 +120,7 @@ number_of-text es has text number is =
 -- what an addition to the set does to the texts, where the text had no number
 pub put_last : {E : Type 0} (old new : Set (String Global)) (text : List ℕ) (r : Result (Bor (String Global)) E) (shown : Bor (String Global)) (texts : Texts)
     → HasNumbers old.entries → texts_in old.entries ≡ texts → number_of texts text ≡ None
-    → AddsFor (λ t key. bytes_eq t (string_bytes key)) text (own_hash fed.str text) old r new → r ≡ Ok shown
+    → AddsFor (λ t key. bytes_eq t (string_bytes key)) (own_hash fed.str text) old new text r → r ≡ Ok shown
     → HasNumbers new.entries × (texts_in new.entries ≡ texts ++ text ∷ [])
 put_last old new text r shown texts has view none adds done =
     let none_in : number_of (texts_in old.entries) text ≡ None = ap (λ t. number_of t text) view ∙ none in

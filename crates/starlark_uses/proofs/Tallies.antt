@@ -8,17 +8,12 @@ use Rattle.std.specs.Str.{NoCharPasses, EmptyOrStartsWithPassing}
 use Rattle.std.specs.String.{string_bytes}
 use Rattle.std.proofs.lemmas.List.Sums.{sum_by_push}
 use Rattle.starlark_hash.specs.Hasher.{own_hash}
-use Rattle.starlark_hash.specs.Lookup.{found}
 use Rattle.starlark_hash.specs.Insert.{insert_entry}
 use Rattle.starlark_small.specs.Lookup.{IsEmpty, get_text}
 use Rattle.starlark_small.specs.Map.{own_hashed}
 use Rattle.starlark_uses.specs.Bindings.{bound}
 use Rattle.starlark_uses.proofs.Bound.{bound-assigned, bound-assigned_other}
 use Rattle.starlark_uses.specs.Words.{BeginsWithWord, CountsOneMore, HasNoZero, HasWords, IsTallyOf, Tally, count_of}
-
-text_bound : (m : Tally) (word : List ℕ) → get_text m word ≡ bound m word
-unfolding found
-text_bound m word = refl
 
 -- an insertion, at each text: the new value at the key's own, the old one at any other
 module _ (old new : Tally) (key : String Global) (n : ℕ) (put : new.entries ≡ insert_entry string_eq old.entries (own_hashed (λ s. fed.str (string_bytes s)) key) n) where
@@ -27,9 +22,7 @@ module _ (old new : Tally) (key : String Global) (n : ℕ) (put : new.entries �
   bound_at word false apart = bound-assigned_other old new key n word (λ e. false≢true (sym apart ∙ (bytes_decides (string_bytes key) word).1 (sym e))) put
 
   pub text_at : (word : List ℕ) → get_text new word ≡ cond (bytes_eq (string_bytes key) word) (Some n) (get_text old word)
-  text_at word =
-      text_bound new word ∙ bound_at word (bytes_eq (string_bytes key) word) refl
-      ∙ ap (λ o. cond (bytes_eq (string_bytes key) word) (Some n) o) (sym (text_bound old word))
+  text_at word = bound_at word (bytes_eq (string_bytes key) word) refl
 
 module _ {old new : Tally} {word : List ℕ} where
   -- the number of the word set to one more, in both of what `bump` promises by cases on whether a word is this one

@@ -1,13 +1,9 @@
 -- What the names of an interpreter are bound to. A name is given by the bytes of its text.
 use Rattle.std.specs.Prelude.{◌≡◌, ℕ, List, [], ◌∷◌, ◌++◌, Option, Some, None, All}
 use Rattle.std.specs.Option.{option_or}
-use Rattle.std.specs.Hash as fed
-use Rattle.std.specs.Str.{bytes_eq}
-use Rattle.std.specs.String.{string_bytes}
 use Rattle.std.specs.declared.alloc.Global.{Global}
 use Rattle.std.specs.declared.string.String.{String}
-use Rattle.starlark_hash.specs.Entries.{position_of, value_at}
-use Rattle.starlark_hash.specs.Hasher.{own_hash}
+use Rattle.starlark_small.specs.Lookup.{get_text}
 use Rattle.starlark_small.specs.Map.{Map}
 
 -- what is bound in one scope: a map from names
@@ -24,9 +20,9 @@ module _ {V : Type 0} where
   abbrev pub bindings : Scope V → List (Scope V) → Bindings V
   bindings scope around = record { innermost = scope; enclosing = around }
 
-  -- the value that a scope binds a name to: that of the first entry under the name's own hash whose key has this text
+  -- the value that a scope binds a name to: what is found at the string with this text
   abbrev pub bound : Scope V → List ℕ → Option V
-  bound scope name = value_at scope.entries (position_of (own_hash fed.str name) (λ key. bytes_eq name (string_bytes key)) scope.entries)
+  bound scope name = get_text scope name
 
   -- what several scopes bind a name to, of which the last is the innermost: the binding of an inner one stands before those of
   -- the others

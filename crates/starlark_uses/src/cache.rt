@@ -44,7 +44,6 @@ impl<V> Cache<V> {
     /// Keeps the answer for a set, and gives the one that it had. Every equal set hits it then, and all others have
     /// what they had. A set that has an answer is never refused. Where there is no memory, the set and the answer come
     /// back, and nothing changes.
-    #[tactic(auto, using(crate::proofs::CacheLemmas::caches))]
     pub fn put(
         &mut self,
         set: OrderedSet<u32>,
@@ -59,8 +58,6 @@ impl<V> Cache<V> {
         ensures unchanged { OnErr result (self.new ≡ self.old) }
     {
         let had = self.answers.insert(set, answer)?;
-        // What says how many there are, says that no two sets are equal.
-        let _len = self.answers.len();
         Ok(had)
     }
 }

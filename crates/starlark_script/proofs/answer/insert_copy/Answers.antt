@@ -3,7 +3,7 @@ use Rattle.starlark_hash.specs.Insert.{insert_entry}
 use Rattle.starlark_hash.specs.HashValue.{hash_of, key_of}
 use Rattle.starlark_script.specs.Shown.{shown_key}
 use Rattle.starlark_script.specs.ShownEntries.{entries_of}
-use Rattle.starlark_script.proofs.EntriesLemmas.{inserted, found}
+use Rattle.starlark_script.proofs.EntriesLemmas.{inserted, value-shown}
 use Rattle.starlark_script.proofs.Results.{IfOk-map_err, IfOk-weaker}
 use Rattle.starlark_script.proofs.answer.insert_copy.Goals as goal
 
@@ -16,13 +16,13 @@ same_text c = ap (λ k. string_bytes (key_of k)) c.new_unchecked.ensures ∙ c.i
 pub returns-clause-old : goal.returns-clause-old
 returns-clause-old c =
     IfOk-map_err c.insert_hashed.result c.map_err.result _ _ c.map_err.ensures.cases
-    (IfOk-weaker c.insert_hashed.result _ _ (λ old e. e ∙ found c.args.map.now.entries c.new_unchecked.result (shown_key c.args.key) (same_hash c) (same_text c)) c.insert_hashed.ensures.inserts.old)
+    (IfOk-weaker c.insert_hashed.result _ _ (λ old e. e ∙ value-shown c.args.map.now.entries c.new_unchecked.result (shown_key c.args.key) (same_hash c) (same_text c)) c.insert_hashed.ensures.old)
 
 pub returns-clause-entries : goal.returns-clause-entries
 returns-clause-entries c =
     let es = c.args.map.now.entries in
     IfOk-map_err c.insert_hashed.result c.map_err.result _ _ c.map_err.ensures.cases
     (IfOk-weaker c.insert_hashed.result _ _
-    (λ old e. inserted es c.insert_hashed.new.self.entries c.new_unchecked.result (shown_key c.args.key) _ e (same_hash c) (same_text c)
+    (λ old e. inserted es c.insert_hashed.new.self.entries c.new_unchecked.result (shown_key c.args.key) _ e.entries (same_hash c) (same_text c)
     ∙ ap (λ value. insert_entry bytes_eq (entries_of es) (shown_key c.args.key) value) (to_z-of_z w64 c.args.value (search rules)))
-    c.insert_hashed.ensures.inserts.entries)
+    c.insert_hashed.ensures.inserts)
