@@ -11,7 +11,8 @@ use Rattle.starlark_hash.proofs.SortingLemmas.{key_lt-order, sorted_by-sorted}
 use Rattle.starlark_hash.specs.Clone.{IsEqualClone, IsEntryClone}
 use Rattle.starlark_vecmap.specs.EntryList.{with_values}
 use Rattle.starlark_vecmap.proofs.ValuesWritten.{length-with_values}
-use Rattle.starlark_map.specs.Sorted.{AreOwn, AscendsStrictly}
+use Rattle.starlark_small.specs.Lookup.{AreOwnEntries}
+use Rattle.starlark_map.specs.Sorted.{AscendsStrictly}
 
 -- what is not greater and not equal is less
 pub less : (r s : Ordering) → r ≡ ordering_reverse s → is_lt s ≡ false → (r ≡ Equal → ⊥) → r ≡ Less
@@ -41,7 +42,8 @@ module _ {K : Type 0} {cmp : K → K → Ordering} {eq : K → K → Bool} (tota
 
   module _ {V : Type 0} {feeds : K → HashWrites} (respects : (x y : K) → eq x y ≡ true → feeds x ≡ feeds y) where
     -- where no two entries have one hash and equal keys, and each hash is the key's own, keys that ascend do so strictly
-    pub Ascends-strictly : (es : List (Entry K V)) → IsSingle eq es → Ascends cmp es → AreOwn feeds es → AscendsStrictly cmp es
+    pub Ascends-strictly : (es : List (Entry K V)) → IsSingle eq es → Ascends cmp es → AreOwnEntries feeds es → AscendsStrictly cmp es
+    unfolding AreOwnEntries
     Ascends-strictly es single up own i j d below inside =
         let e = get_or es i d in let f = get_or es j d in
         let x = entry_key e in let y = entry_key f in

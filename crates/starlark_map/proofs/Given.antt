@@ -11,7 +11,7 @@ use Rattle.starlark_hash.proofs.SortingLemmas.{key_lt-order}
 use Rattle.starlark_small.proofs.CallerLookup.{none_among}
 use Rattle.starlark_sets.specs.Difference.{lacks}
 use Rattle.starlark_sets.specs.Set.{Elements}
-use Rattle.starlark_map.specs.SortedUnion.{ComesNext, Follows, comes_first, shown}
+use Rattle.starlark_map.specs.SortedUnion.{ComesNext, Follows, comes_first, shown_element}
 use Rattle.starlark_map.proofs.Along.{Ascends-tail, rest-above}
 use Rattle.starlark_map.proofs.Rising.{before-all}
 
@@ -63,25 +63,25 @@ module _ {T : Type 0} {eq : T → T → Bool} {cmp : T → T → Ordering} (tota
       rw (all, lacks-before es f (subst (Ascends cmp) all up) first)
 
   -- nor, if it is above the last, in one of which something was
-  pub lacks-next-above : (h : Hashed (Bor T)) (there : Elements T) (f : Entry T (Unit {0})) → ComesNext cmp (Some h) there f → key_lt cmp (shown h) f ≡ true → false ≡ not (lacks eq there f)
+  pub lacks-next-above : (h : Hashed (Bor T)) (there : Elements T) (f : Entry T (Unit {0})) → ComesNext cmp (Some h) there f → key_lt cmp (shown_element h) f ≡ true → false ≡ not (lacks eq there f)
   lacks-next-above h there f next lt =
       let (es, up, behind, first) = next in
-      rw (behind.1, lacks-between behind.0 es (shown h) f (subst (Ascends cmp) behind.1 up) lt first)
+      rw (behind.1, lacks-between behind.0 es (shown_element h) f (subst (Ascends cmp) behind.1 up) lt first)
 
   -- but what ties with the last and stands under its hash is in it
-  pub holds-tie : (h : Hashed (Bor T)) (there : Elements T) (f : Entry T (Unit {0})) → ComesNext cmp (Some h) there f → cmp (entry_key (shown h)) (entry_key f) ≡ Equal
-      → is_under (hash_of f.0) (shown h) ≡ true → true ≡ not (lacks eq there f)
+  pub holds-tie : (h : Hashed (Bor T)) (there : Elements T) (f : Entry T (Unit {0})) → ComesNext cmp (Some h) there f → cmp (entry_key (shown_element h)) (entry_key f) ≡ Equal
+      → is_under (hash_of f.0) (shown_element h) ≡ true → true ≡ not (lacks eq there f)
   holds-tie h there f next tie under =
       let (es, up, behind, first) = next in
-      let equal : eq (entry_key f) (entry_key (shown h)) ≡ true = cc (ties (entry_key f) (entry_key (shown h)), total.antisymm (entry_key f) (entry_key (shown h))) in
-      rw (behind.1, holds-at eq f behind.0 (shown h) es (cc (under, equal)))
+      let equal : eq (entry_key f) (entry_key (shown_element h)) ≡ true = cc (ties (entry_key f) (entry_key (shown_element h)), total.antisymm (entry_key f) (entry_key (shown_element h))) in
+      rw (behind.1, holds-at eq f behind.0 (shown_element h) es (cc (under, equal)))
 
 -- what is left of a list that ascends ascends
 pub Ascends-left : {T : Type 0} (cmp : T → T → Ordering) (last : Option (Hashed (Bor T))) (es there : Elements T) → Follows last es there → Ascends cmp there → Ascends cmp es
 Ascends-left cmp None es there all up = subst (Ascends cmp) all up
-Ascends-left cmp (Some h) es there all up = Ascends-tail cmp (shown h) es (Ascends-behind-all cmp all.0 (shown h ∷ es) (subst (Ascends cmp) all.1 up))
+Ascends-left cmp (Some h) es there all up = Ascends-tail cmp (shown_element h) es (Ascends-behind-all cmp all.0 (shown_element h ∷ es) (subst (Ascends cmp) all.1 up))
 
 -- the element that was taken from what is left is the last that was given
-pub Follows-taken : {T : Type 0} (last : Option (Hashed (Bor T))) (h : Hashed (Bor T)) (es fs there : Elements T) → fs ≡ shown h ∷ es → Follows last fs there → Follows (Some h) es there
+pub Follows-taken : {T : Type 0} (last : Option (Hashed (Bor T))) (h : Hashed (Bor T)) (es fs there : Elements T) → fs ≡ shown_element h ∷ es → Follows last fs there → Follows (Some h) es there
 Follows-taken None h es fs there is all = ([], all ∙ is)
-Follows-taken (Some g) h es fs there is all = (all.0 ++ shown g ∷ [], cc (all.1, append_assoc all.0 (shown g ∷ []) (shown h ∷ es)))
+Follows-taken (Some g) h es fs there is all = (all.0 ++ shown_element g ∷ [], cc (all.1, append_assoc all.0 (shown_element g ∷ []) (shown_element h ∷ es)))

@@ -1,14 +1,11 @@
 -- Entries whose keys are seen as texts: an insertion of a string is the insertion of its text.
-use Rattle.starlark_hash.proofs.Common.{◌≡◌, ℕ, zero, suc, Bool, true, List, [], ◌∷◌, ◌++◌, Option, Some, None, MatchOption, string_bytes, refl, sym, ap, ◌∙◌, map-append, option_map_or, arith, common_steps, bytes_eq, Global, String}
+use Rattle.starlark_hash.proofs.Common.{◌≡◌, ℕ, zero, suc, Bool, List, [], ◌∷◌, string_bytes, refl, ap, map-append, arith, common_steps, bytes_eq, Global, String}
 use Rattle.std.specs.Hash as fed
 use Rattle.starlark_hash.specs.declared.hashed.Hashed.{Hashed}
 use Rattle.starlark_hash.specs.Entries.{Entry, stands_under, set_value_at}
 use Rattle.starlark_hash.specs.Insert.{insert_entry}
 use Rattle.starlark_hash.specs.HashValue.{hash_of, key_of}
 use Rattle.starlark_hash.proofs.PositionLemmas.{position-map}
-use Rattle.starlark_sets.specs.Set.{Set}
-use Rattle.starlark_sets.proofs.Additions.{set_unit_at}
-use Rattle.starlark_small.specs.Insert.{IsInserted}
 use Rattle.starlark_small.specs.Map.{own_hashed}
 use Rattle.starlark_map.specs.JsonTexts.{Text, own_text, text_entry, text_entries}
 
@@ -28,14 +25,7 @@ module _ {V : Type 0} where
   text_entries-insert_entry es key value =
       grind (arith, common_steps, position-map text_entry (stands_under (hash_of key) (bytes_eq (string_bytes (key_of key)))) es, map-append text_entry es ((key, value) ∷ []), set_value_at-text_entries es)
 
-  -- the same of a string under its own hash, of which the text is known
+  -- what an insertion of a string under its own hash leaves, where its text is known
   pub own_inserted : (es : List (Entry (String Global) V)) (key : String Global) (text : Text) (value : V) → string_bytes key ≡ text
       → text_entries (insert_entry string_eq es (own_hashed (λ s. fed.str (string_bytes s)) key) value) ≡ insert_entry bytes_eq (text_entries es) (own_text text) value
   own_inserted es key text value is = rw (← is) (text_entries-insert_entry es (own_hashed (λ s. fed.str (string_bytes s)) key) value)
-
--- what an insertion into a set leaves
-pub element_inserted : (old new : Set (String Global)) (element : Hashed (String Global)) (index : Option ℕ)
-    → MatchOption index (IsInserted old element tt new) (λ i. (true ≡ true) × (new ≡ old))
-    → new.entries ≡ option_map_or (λ i. set_value_at old.entries i tt) index (old.entries ++ (element, tt) ∷ [])
-element_inserted old new element None added = added.entries
-element_inserted old new element (Some i) same = ap (λ s. s.entries) same.1 ∙ sym (set_unit_at old.entries i)

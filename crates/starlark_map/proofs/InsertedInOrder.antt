@@ -18,7 +18,8 @@ use Rattle.starlark_sets.proofs.Additions.{set_unit_at}
 use Rattle.starlark_small.specs.Map.{own_hashed}
 use Rattle.starlark_sets.specs.Collect.{own_element}
 use Rattle.starlark_sets.specs.Set.{Elements}
-use Rattle.starlark_map.specs.Sorted.{AreOwn, AscendsStrictly}
+use Rattle.starlark_small.specs.Lookup.{AreOwnEntries}
+use Rattle.starlark_map.specs.Sorted.{AscendsStrictly}
 use Rattle.starlark_map.proofs.Ascending.{less}
 
 remove_middle : {X : Type 0} (xs ys : List X) (x : X) → remove (xs ++ x ∷ ys) (length xs) ≡ xs ++ ys
@@ -33,8 +34,9 @@ module _ {T : Type 0} {cmp : T → T → Ordering} {eq : T → T → Bool} {feed
   rises xs up i j d below inside = sorted_far (λ x y. is_lt (cmp x y)) (ranks_by total (λ x. x)) xs up i j d (omega (arith, below)) inside
 
   -- an item that is not less than those before it, and has no match there, is greater than each
-  above : (es : Elements T) (x : T) (xs : List T) → AreOwn feeds es → Rises (map entry_key es ++ x ∷ xs) → match_of eq es (own_hashed feeds x) ≡ None
+  above : (es : Elements T) (x : T) (xs : List T) → AreOwnEntries feeds es → Rises (map entry_key es ++ x ∷ xs) → match_of eq es (own_hashed feeds x) ≡ None
       → All (λ e. cmp (entry_key e) x ≡ Less) es
+  unfolding AreOwnEntries
   above es x xs own up none k e inside =
       let key = entry_key (get_or es k e) in
       let ks = map entry_key es in
@@ -48,7 +50,8 @@ module _ {T : Type 0} {cmp : T → T → Ordering} {eq : T → T → Bool} {feed
       grind (arith, common_steps, position-None (stands_under (own_hash feeds x) (eq x)) es none k e inside, ap hash_number hashes))
 
   -- the list so far, and the items to come
-  inserted : (es : Elements T) (xs : List T) → AreOwn feeds es → AscendsStrictly cmp es → Rises (map entry_key es ++ xs) → AscendsStrictly cmp (insert_all eq es (map (own_element feeds) xs))
+  inserted : (es : Elements T) (xs : List T) → AreOwnEntries feeds es → AscendsStrictly cmp es → Rises (map entry_key es ++ xs) → AscendsStrictly cmp (insert_all eq es (map (own_element feeds) xs))
+  unfolding AreOwnEntries
   inserted es [] own strict up = strict
   inserted es (x ∷ xs) own strict up =
       elim (match_of eq es (own_hashed feeds x)) as (λ o. match_of eq es (own_hashed feeds x) ≡ o → AscendsStrictly cmp (insert_all eq (option_map_or (λ i. set_value_at es i tt) o (es ++ own_element feeds x ∷ [])) (map (own_element feeds) xs))) [
@@ -62,6 +65,7 @@ module _ {T : Type 0} {cmp : T → T → Ordering} {eq : T → T → Bool} {feed
 
   -- items that ascend, inserted one after the other, ascend strictly
   pub insert_all-strictly : (xs : List T) → IsSorted cmp xs → AscendsStrictly cmp (insert_all eq [] (map (own_element feeds) xs))
+  unfolding AreOwnEntries
   insert_all-strictly xs up = inserted [] xs (λ k d inside. absurd (omega arith)) (λ j k d below inside. absurd (omega arith)) (rises xs up)
 
 -- a vector's items, inserted into an empty list

@@ -1,7 +1,6 @@
 pub mod Ascending
 pub mod Given
 pub mod InsertedInOrder
-pub mod OwnHashes
 pub mod Rising
 pub mod SortedMapOpen
 pub mod Along

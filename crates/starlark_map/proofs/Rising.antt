@@ -15,9 +15,9 @@ use Rattle.starlark_sets.specs.Union.{union}
 use Rattle.starlark_hash.specs.Unit.{deref_hashed}
 use Rattle.starlark_sets.proofs.Differences.{counts-union}
 use Rattle.starlark_sets.proofs.Unions.{IsSingle-difference, IsSingle-union}
-use Rattle.starlark_map.specs.Sorted.{AreOwn}
+use Rattle.starlark_small.specs.Lookup.{AreOwnEntries}
 use Rattle.starlark_map.proofs.Along.{along_from, rest-above}
-use Rattle.starlark_map.specs.SortedUnion.{GivesRise, OwnNext, RiseSteps, SortedUnion, ahead, behind, comes_first, elements_under, is_others, is_passed, rise, rise_rest, shown}
+use Rattle.starlark_map.specs.SortedUnion.{GivesRise, OwnNext, RiseSteps, SortedUnion, ahead, drop_while, comes_first, elements_under, is_others, is_passed, rise, rise_rest, shown_element}
 
 module _ {X : Type 0} (lt : X → X → Bool) where
   insert-first : (x : X) (xs : List X) → All (λ w. lt w x ≡ false) xs → insert_sorted lt x xs ≡ x ∷ xs
@@ -35,14 +35,14 @@ module _ {X : Type 0} (lt : X → X → Bool) where
 
 module _ {X : Type 0} (p : X → Bool) where
   -- what is behind the items that pass begins with one that does not
-  behind-head : (xs ys : List X) (y : X) → behind p xs ≡ y ∷ ys → p y ≡ false
-  behind-head [] ys y is = cc
-  behind-head (x ∷ xs) ys y is = grind (arith, behind-head xs ys y)
+  drop_while-head : (xs ys : List X) (y : X) → drop_while p xs ≡ y ∷ ys → p y ≡ false
+  drop_while-head [] ys y is = cc
+  drop_while-head (x ∷ xs) ys y is = grind (arith, drop_while-head xs ys y)
 
   -- and it has all that a filter keeps which keeps none of those
-  filter-behind : (q : X → Bool) → ((x : X) → p x ≡ true → q x ≡ false) → (xs : List X) → filter q (behind p xs) ≡ filter q xs
-  filter-behind q out [] = refl
-  filter-behind q out (x ∷ xs) = grind (arith, filter-behind q out xs, out x)
+  filter-drop_while : (q : X → Bool) → ((x : X) → p x ≡ true → q x ≡ false) → (xs : List X) → filter q (drop_while p xs) ≡ filter q xs
+  filter-drop_while q out [] = refl
+  filter-drop_while q out (x ∷ xs) = grind (arith, filter-drop_while q out xs, out x)
 
 module _ {T : Type 0} {cmp : T → T → Ordering} (total : IsTotalOrder cmp) where
   pub before-all : (es : Elements T) (f : Entry T (Unit {0})) → Ascends cmp es → comes_first cmp es f ≡ true → All (λ w. key_lt cmp f w ≡ true) es
@@ -71,20 +71,20 @@ module _ {T : Type 0} (eq : T → T → Bool) {cmp : T → T → Ordering} (tota
       (All-append (λ w. key_lt cmp w e ≡ false) es (difference eq gs there) (rest-above total e es up)
       (All-filter (lacks eq there) (λ w. key_lt cmp w e ≡ false) gs (none-before total e es gs over own)))
 
-  skipped : (es fs there : Elements T) → difference eq (behind (is_passed eq cmp es there) fs) there ≡ difference eq fs there
-  skipped es fs there = filter-behind (is_passed eq cmp es there) (lacks eq there) (λ f passes. grind arith) fs
+  skipped : (es fs there : Elements T) → difference eq (drop_while (is_passed eq cmp es there) fs) there ≡ difference eq fs there
+  skipped es fs there = filter-drop_while (is_passed eq cmp es there) (lacks eq there) (λ f passes. grind arith) fs
 
   -- a step that gives an element of the other list
-  pub step-other : (es fs there gs : Elements T) (h : Hashed (Bor T)) → Ascends cmp es → Ascends cmp (shown h ∷ gs)
-      → behind (is_passed eq cmp es there) fs ≡ shown h ∷ gs → comes_first cmp es (shown h) ≡ true
+  pub step-other : (es fs there gs : Elements T) (h : Hashed (Bor T)) → Ascends cmp es → Ascends cmp (shown_element h ∷ gs)
+      → drop_while (is_passed eq cmp es there) fs ≡ shown_element h ∷ gs → comes_first cmp es (shown_element h) ≡ true
       → RiseSteps eq cmp (record { left = es; right = fs; there = there }) (Some h.key) (record { left = es; right = gs; there = there })
   step-other es fs there gs h up over is first =
-      let f = shown h in
-      let lacking : lacks eq there f ≡ true = grind (arith, behind-head (is_passed eq cmp es there) fs gs f is) in
+      let f = shown_element h in
+      let lacking : lacks eq there f ≡ true = grind (arith, drop_while-head (is_passed eq cmp es there) fs gs f is) in
       (rw (← skipped es fs there, is, other-first es gs there f up over first lacking), rw (is, first))
 
   -- the next element is this list's, or there is none
-  pub step-own : (es fs there gs : Elements T) → Ascends cmp es → Ascends cmp gs → behind (is_passed eq cmp es there) fs ≡ gs → is_others cmp es gs ≡ false
+  pub step-own : (es fs there gs : Elements T) → Ascends cmp es → Ascends cmp gs → drop_while (is_passed eq cmp es there) fs ≡ gs → is_others cmp es gs ≡ false
       → OwnNext eq cmp (record { left = es; right = fs; there = there }) (record { left = es; right = gs; there = there })
   step-own [] fs there [] up over is own = (rw (← skipped [] fs there, is), refl, rw is)
   step-own [] fs there (g ∷ gs) up over is own = cc
@@ -107,7 +107,7 @@ pub ahead-of : {T : Type 0} (hs ks : List (Hashed T)) (h : Option (Hashed (Bor T
 ahead-of hs ks h taken = grind arith
 
 -- what is left of a walk whose first element is known, once that was taken
-pub taken-first : {T : Type 0} (es ds : Elements T) (h : Hashed (Bor T)) (r : Option (Hashed (Bor T))) → es ≡ shown h ∷ drop 1 es → TakesFirst shown es r ds → es ≡ shown h ∷ ds
+pub taken-first : {T : Type 0} (es ds : Elements T) (h : Hashed (Bor T)) (r : Option (Hashed (Bor T))) → es ≡ shown_element h ∷ drop 1 es → TakesFirst shown_element es r ds → es ≡ shown_element h ∷ ds
 taken-first es ds h r first taken = grind arith
 
 -- what a walk over two sets begins with
@@ -122,7 +122,8 @@ module _ {T : Type 0} (eq : T → T → Bool) (cmp : T → T → Ordering) (es f
       (IsPermutation-sorted_by (key_lt cmp) (union eq es fs))
 
   -- and each stands under its own hash, if they do so in both
-  pub rise-own : (feeds : T → HashWrites) → AreOwn feeds es → AreOwn feeds fs → AreOwn feeds (rise eq cmp es fs)
+  pub rise-own : (feeds : T → HashWrites) → AreOwnEntries feeds es → AreOwnEntries feeds fs → AreOwnEntries feeds (rise eq cmp es fs)
+  unfolding AreOwnEntries
   rise-own feeds first second =
       let own = λ (e : Entry T (Unit {0})). entry_hash e ≡ own_hash feeds (entry_key e) in
       All-permutation own (union eq es fs) (rise eq cmp es fs) (IsPermutation-sorted_by (key_lt cmp) (union eq es fs))

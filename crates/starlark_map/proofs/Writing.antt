@@ -8,7 +8,7 @@ use Rattle.serde_json.specs.Find.{get_member, of_integer}
 use Rattle.serde_json.proofs.Views.{get_member-put, get_member-put_other}
 use Rattle.starlark_hash.specs.Entries.{Entry, entry_key, pair_of}
 use Rattle.starlark_map.specs.JsonObjects.{put_all, last_value}
-use Rattle.starlark_map.specs.JsonTexts.{Text, pairs_of, texts_of}
+use Rattle.starlark_map.specs.JsonTexts.{Text, text_pairs_of, texts_of}
 
 abbrev pub integer : ℤ → Data
 integer n = number (of_integer n)
@@ -31,14 +31,14 @@ text_pairs ps = map (λ p. (string_bytes p.0, p.1)) ps
 
 -- what was made, once nothing of the walk is left
 pub all_put : (es : List (Entry (String Global) ℤ)) (made : Members) (left whole : List (String Global × ℤ)) → whole ≡ map pair_of es → left ≡ []
-    → put_all made (text_pairs left) ≡ put_all no_members (text_pairs whole) → made ≡ put_all no_members (pairs_of es)
+    → put_all made (text_pairs left) ≡ put_all no_members (text_pairs whole) → made ≡ put_all no_members (text_pairs_of es)
 all_put es made left whole walk none goes = simp (none, walk, map-map) at goes
 
 -- strings, each as the data of a value
 abbrev pub strings : List (String Global) → List Data
 strings ss = map (λ s. string (string_bytes s)) ss
 
--- the same of items
+-- what was pushed, once nothing of the walk is left
 pub all_pushed : {V : Type 0} (es : List (Entry (String Global) V)) (made : List Data) (left whole : List (String Global)) → whole ≡ map entry_key es → left ≡ []
     → made ++ strings left ≡ strings whole → made ≡ map string (texts_of es)
 all_pushed es made left whole walk none goes = simp map-map (simp (none, walk, map-map, append-nil) at goes)

@@ -12,21 +12,21 @@ use Rattle.starlark_map.specs.declared.json.fault.JsonFault.{JsonFault}
 use Rattle.starlark_map.specs.declared.json.fault.JsonFault.TheVariants.{NotArray, NotText, Memory}
 
 -- the elements of a set, each a text under its hash
-abbrev pub Elements : Type 0
-Elements = List (Entry Text (Unit {0}))
+abbrev pub TextElements : Type 0
+TextElements = List (Entry Text (Unit {0}))
 
 -- the array of these texts, in their order
 abbrev pub array_of : List Text → Data
 array_of texts = array (items_of (map string texts))
 
 -- the items in order, each text under its own hash; none where an item is no text
-abbrev pub elements_of : Items → Option Elements
-elements_of no_items = Some []
-elements_of (item d ds) = option_and_then (λ text. option_map (λ es. (own_text text, tt) ∷ es) (elements_of ds)) (as_str d)
+abbrev pub elements_of_items : Items → Option TextElements
+elements_of_items no_items = Some []
+elements_of_items (item d ds) = option_and_then (λ text. option_map (λ es. (own_text text, tt) ∷ es) (elements_of_items ds)) (as_str d)
 
 -- the elements of the set that a value is: an array's items, inserted one after the other, so that a text keeps its first index
-abbrev pub set_entries : Data → Option Elements
-set_entries d = option_map (insert_all bytes_eq []) (option_and_then elements_of (as_array d))
+abbrev pub set_entries : Data → Option TextElements
+set_entries d = option_map (insert_all bytes_eq []) (option_and_then elements_of_items (as_array d))
 
 -- how reading these items may fail: the first that is no text is at fault, and memory may be refused at one before it
 abbrev pub IsItemFault : Items → JsonFault → Type 0

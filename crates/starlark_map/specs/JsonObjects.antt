@@ -11,8 +11,8 @@ use Rattle.starlark_map.specs.declared.json.fault.JsonFault.{JsonFault}
 use Rattle.starlark_map.specs.declared.json.fault.JsonFault.TheVariants.{NotObject, NotInteger, Memory}
 
 -- the entries of a map to integers, their keys as texts
-abbrev pub Entries : Type 0
-Entries = List (Entry Text ℤ)
+abbrev pub IntegerEntries : Type 0
+IntegerEntries = List (Entry Text ℤ)
 
 -- the members once these keys and values were put in, one after the other: a key that comes again takes the later value
 abbrev pub put_all : Members → List (Text × ℤ) → Members
@@ -33,13 +33,13 @@ abbrev pub integer_of : Data → Option ℤ
 integer_of d = option_and_then as_i64 (as_number d)
 
 -- the members in order, each key under its own hash with its integer; none where a value is no integer
-abbrev pub entries_of : Members → Option Entries
-entries_of no_members = Some []
-entries_of (member key d ms) = option_and_then (λ n. option_map (λ es. (own_text key, n) ∷ es) (entries_of ms)) (integer_of d)
+abbrev pub entries_of_members : Members → Option IntegerEntries
+entries_of_members no_members = Some []
+entries_of_members (member key d ms) = option_and_then (λ n. option_map (λ es. (own_text key, n) ∷ es) (entries_of_members ms)) (integer_of d)
 
 -- the entries of the map that a value is: those of an object's members, in order
-abbrev pub map_entries : Data → Option Entries
-map_entries d = option_and_then entries_of (as_object d)
+abbrev pub map_entries : Data → Option IntegerEntries
+map_entries d = option_and_then entries_of_members (as_object d)
 
 -- how reading these members may fail: the first value that is no integer is at fault, and memory may be refused at one
 -- before it

@@ -37,5 +37,5 @@ module _ {V : Type 0} where
   texts_of es = map (λ e. string_bytes (entry_key e)) es
 
   -- the keys, as texts, and values in order, whatever hashes the keys stand under
-  abbrev pub pairs_of : List (Entry (String Global) V) → List (Text × V)
-  pairs_of es = map (λ e. (string_bytes (entry_key e), entry_value e)) es
+  abbrev pub text_pairs_of : List (Entry (String Global) V) → List (Text × V)
+  text_pairs_of es = map (λ e. (string_bytes (entry_key e), entry_value e)) es

@@ -49,8 +49,6 @@ pub use Rattle.starlark_sets.specs.Union
 pub use Rattle.starlark_sets.specs.Lend as SetLend
 pub use Rattle.starlark_sets.specs.Collect as SetCollect
 pub use Rattle.starlark_sets.specs.Retain as SetRetain
-pub use Rattle.starlark_sets.specs.Lookup as SetLookup
-pub use Rattle.starlark_sets.specs.Remove as SetRemove
 pub use Rattle.starlark_sets.specs.Compare as OrderedCompare
 pub use Rattle.starlark_sets.specs.CompareLaws as OrderedCompareLaws
 pub use Rattle.starlark_sets.specs.TryInsert
@@ -63,10 +61,8 @@ pub mod JsonTexts
 pub mod JsonObjects
 pub mod JsonArrays
 pub use Rattle.starlark_unordered.specs.Lookup as PairsLookup
-pub use Rattle.starlark_unordered.specs.Compare as PairsCompare
 pub use Rattle.starlark_unordered.specs.Insert as PairsInsert
 pub use Rattle.starlark_unordered.specs.Remove as PairsRemove
-pub use Rattle.starlark_unordered.specs.New as PairsNew
 pub use Rattle.starlark_unordered.specs.Pairs
 pub use Rattle.starlark_unordered.specs.Bag
 pub use Rattle.starlark_unordered.specs.BagLaws
@@ -78,7 +74,6 @@ pub use Rattle.starlark_unordered.specs.Slots as PairsSlots
 pub use Rattle.starlark_unordered.specs.Lend as PairsLend
 pub use Rattle.starlark_unordered.specs.MapEntry as PairsEntry
 pub use Rattle.starlark_unordered.specs.RawEntry
-pub use Rattle.starlark_unordered.specs.Clone as PairsClone
 pub use Rattle.starlark_unordered.specs.Collect as PairsCollect
 pub use Rattle.starlark_unordered.specs.Set as UnorderedSet
 pub use Rattle.starlark_unordered.specs.SetRawEntry

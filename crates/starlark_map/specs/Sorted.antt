@@ -1,12 +1,10 @@
 -- Lists of entries that ascend by their keys, and the maps that have them.
 use Rattle.std.specs.Prelude.{◌≡◌, Bool, false, List, [], ◌∷◌, Option, All, AllPairs, ⊤}
-use Rattle.std.specs.Hash.{HashWrites}
 use Rattle.std.specs.Iterator.{Count}
 use Rattle.std.specs.Ordering.{is_gt}
 use Rattle.std.specs.declared.cmp.Ordering.{Ordering}
 use Rattle.std.specs.declared.cmp.Ordering.TheVariants.{Less}
-use Rattle.starlark_hash.specs.Entries.{Entry, entry_hash, entry_key}
-use Rattle.starlark_hash.specs.Hasher.{own_hash}
+use Rattle.starlark_hash.specs.Entries.{Entry, entry_key}
 use Rattle.starlark_hash.specs.Sort.{sorted_by_key}
 use Rattle.starlark_small.specs.Collect.{Collects}
 use Rattle.starlark_small.specs.Map.{KeepsMemory, Map}
@@ -17,10 +15,6 @@ AscendsAlong cmp [] = ⊤
 AscendsAlong cmp (x ∷ xs) = All (λ y. is_gt (cmp x y) ≡ false) xs × AscendsAlong cmp xs
 
 module _ {K V : Type 0} where
-  -- each entry stands under its key's own hash, where `feeds` tells what a key feeds
-  abbrev pub AreOwn : (K → HashWrites) → List (Entry K V) → Type 0
-  AreOwn feeds es = All (λ e. entry_hash e ≡ own_hash feeds (entry_key e)) es
-
   -- each key is less than every key after it
   abbrev pub AscendsStrictly : (K → K → Ordering) → List (Entry K V) → Type 0
   AscendsStrictly cmp es = AllPairs (λ d e. cmp (entry_key d) (entry_key e) ≡ Less) es

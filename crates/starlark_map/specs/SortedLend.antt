@@ -6,6 +6,7 @@ use Rattle.std.specs.declared.cmp.Ordering.{Ordering}
 use Rattle.starlark_hash.specs.declared.hash_value.StarlarkHashValue.{StarlarkHashValue}
 use Rattle.starlark_hash.specs.Entries.{position_of, with_value}
 use Rattle.starlark_vecmap.specs.EntryList.{with_values}
+use Rattle.starlark_small.specs.Lookup.{keys, AreOwn}
 use Rattle.starlark_small.specs.Map.{Map}
 use Rattle.starlark_small.specs.contracts.small_map.SmallMap as small
 use Rattle.starlark_hash.specs.Lookup.{Writes, found}
@@ -17,12 +18,14 @@ module _ (K V : RattleType) (cmp : K.Denot → K.Denot → Ordering) (eq : K.Den
   the_row = sorted.the_row K V (record { cmp = cmp }) (record { eq = eq }) (record { partial_cmp = partial_cmp }) (record { hash_input = feeds })
 
   module _ (s : MutBor (Map K.Denot V.Denot)) where
-    -- the value at the index that was found ends as what is left behind the reference, a look-up then finds it, and all else
-    -- stays; where none was found, the map stays
+    -- the value that a test finds under a hash ends as what is left behind the reference, and all else stays: by look-ups; the keys
+    -- in their order, and which are under their own hashes; and where the value is left as it was, the map is as it was. Where
+    -- there is none, the map stays
     abbrev pub lends_get : (K.Denot → Bool) → StarlarkHashValue → Option (MutBor V.Denot) → Fml
     lends_get test hash r = LendsSo the_row V s r
-        (λ n w. (n ≡ record s.now { entries = with_value s.now.entries (position_of hash test s.now.entries) w })
-        × (IsSome (found test hash s.now.entries) → Writes eq test hash s.now.entries n.entries (Some w)))
+        (λ n w. (n ≡ record s.now { entries = with_value s.now.entries (position_of hash test s.now.entries) w }) × (keys n ≡ keys s.now)
+        × (IsSome (found test hash s.now.entries) → Writes eq test hash s.now.entries n.entries (Some w))
+        × ((feeds : K.Denot → HashWrites) → AreOwn feeds s.now → AreOwn feeds n) × (found test hash s.now.entries ≡ Some w → n ≡ s.now))
         (λ n. n ≡ s.now)
 
     -- the map ends with the values that the loan of this name ends with, and all else stays

@@ -22,8 +22,8 @@ pub record SortedUnion (T : Type 0) : Type 0 where
 
 module _ {T : Type 0} where
   -- what a `Hashed<&T>` shows, as an element of a set
-  abbrev pub shown : Hashed (Bor T) → Entry T (Unit {0})
-  shown h = (deref_hashed h, tt)
+  abbrev pub shown_element : Hashed (Bor T) → Entry T (Unit {0})
+  shown_element h = (deref_hashed h, tt)
 
   -- hashed elements as those of a set
   abbrev pub elements_under : List (Hashed T) → Elements T
@@ -32,7 +32,7 @@ module _ {T : Type 0} where
   -- the element that was taken from a walk beforehand, and those that the walk has left
   abbrev pub ahead : Option (Hashed (Bor T)) → List (Hashed T) → Elements T
   ahead None hs = []
-  ahead (Some h) hs = shown h ∷ elements_under hs
+  ahead (Some h) hs = shown_element h ∷ elements_under hs
 
   -- what is left once the first list's first is taken
   abbrev pub after_own : SortedUnion T → SortedUnion T
@@ -41,7 +41,7 @@ module _ {T : Type 0} where
   -- whether a list is what another has behind this element, or all of it where no element is given
   abbrev pub Follows : Option (Hashed (Bor T)) → Elements T → Elements T → Type 0
   Follows None es there = there ≡ es
-  Follows (Some h) es there = (ds : Elements T) × (there ≡ ds ++ shown h ∷ es)
+  Follows (Some h) es there = (ds : Elements T) × (there ≡ ds ++ shown_element h ∷ es)
 
 -- a union of lists of these lengths gives these items: as many as are in either, and along them none is greater than one after it
 pub record GivesRise {T : Type 0} (cmp : T → T → Ordering) (first second : ℕ) (items : List T) : Type 0 where
@@ -49,9 +49,9 @@ pub record GivesRise {T : Type 0} (cmp : T → T → Ordering) (first second : �
   pub along : AscendsAlong cmp items
 
 -- the list from the first item on that does not pass
-abbrev pub behind : {X : Type 0} → (X → Bool) → List X → List X
-behind p [] = []
-behind p (x ∷ xs) = if p x then behind p xs else x ∷ xs
+abbrev pub drop_while : {X : Type 0} → (X → Bool) → List X → List X
+drop_while p [] = []
+drop_while p (x ∷ xs) = if p x then drop_while p xs else x ∷ xs
 
 module _ {T : Type 0} (cmp : T → T → Ordering) where
   -- whether an element comes before all that is left of the first list, or nothing is left of that
@@ -93,18 +93,18 @@ module _ {T : Type 0} (eq : T → T → Bool) (cmp : T → T → Ordering) where
 
   -- what a step leaves: those of the second list that are passed over are gone; then its first is taken where it comes before
   -- what is left of the first list, and else the first of that list
-  abbrev pub after : SortedUnion T → SortedUnion T
-  after u =
-      let fs = behind (is_passed u.left u.there) u.right in
+  abbrev pub after_step : SortedUnion T → SortedUnion T
+  after_step u =
+      let fs = drop_while (is_passed u.left u.there) u.right in
       if is_others cmp u.left fs then record u { right = drop 1 fs } else record u { left = drop 1 u.left; right = fs }
 
   -- t is s without those that are passed over, and the next element is the first list's or there is none
   abbrev pub OwnNext : SortedUnion T → SortedUnion T → Type 0
-  OwnNext s t = (rise_rest s ≡ own_rest t) × (rise_rest (after_own t) ≡ drop 1 (own_rest t)) × (after_own t ≡ after s)
+  OwnNext s t = (rise_rest s ≡ own_rest t) × (rise_rest (after_own t) ≡ drop 1 (own_rest t)) × (after_own t ≡ after_step s)
 
   -- a step gives the first element to come, and passes over those of the second list that come before it and are not to come
   abbrev pub RiseSteps : SortedUnion T → Option (Bor T) → SortedUnion T → Type 0
-  RiseSteps s r t = YieldsFirstRef rise_rest s r t × (t ≡ after s)
+  RiseSteps s r t = YieldsFirstRef rise_rest s r t × (t ≡ after_step s)
 
   -- each run of `next` shows the elements that were still to come, in order
   abbrev pub ShowsRise : Type 0

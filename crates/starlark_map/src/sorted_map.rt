@@ -1,16 +1,17 @@
 //! A map whose keys ascend. It alone sees the map inside.
 ghost use Rattle.starlark_small.specs.New.{IsBare};
 ghost use Rattle.starlark_small.specs.Clone.{Clones};
-ghost use Rattle.std.specs.Prelude.{◌≡◌, None, IsOk, IsTrue, IfOk, ◌==◌, length, ◌<◌, map};
-ghost use Rattle.std.specs.Hash.{HashWrites};
+ghost use Rattle.std.specs.Prelude.{◌≡◌, None, IsOk, IsTrue, IfOk, IfSome, ◌==◌, ◌<◌, ◌^◌, length, map};
+ghost use Rattle.std.specs.List.{IsAmong};
 ghost use Rattle.std.specs.Iterator.{IsFiniteIterable};
 ghost use Rattle.starlark_hash.specs.Clone.{IsEqualClone};
 ghost use Rattle.starlark_small.specs.Collect.{FindsLast, own_entry};
 ghost use Rattle.starlark_map.specs.SortedCollect.{GivesNothing, SortsInto};
-ghost use Rattle.starlark_map.specs.Sorted.{AreOwn, CollectsSorted};
+ghost use Rattle.starlark_hash.specs.Entries.{entry_value};
+ghost use Rattle.starlark_map.specs.Sorted.{AscendsAlong, CollectsSorted};
 ghost use Rattle.std.specs.Option.{option_copied, option_copied_mut};
 ghost use Rattle.starlark_hash.specs.Hasher.{own_hash};
-ghost use Rattle.starlark_small.specs.Lookup.{FindsValue, TellsPresence};
+ghost use Rattle.starlark_small.specs.Lookup.{AreOwn, HasKey, contains, get, keys};
 ghost use Rattle.std.specs.Borrow.{sem};
 ghost use Rattle.starlark_map.specs.SortedLend.{lends_get};
 
@@ -56,6 +57,7 @@ impl<K: Ord + Hash, V> SortedMap<K, V> {
     /// The entries of the map, sorted by key; those with equal keys keep their order. Where the keys ascend already it
     /// asks for no memory. Where memory is refused, the map is handed back with its entries as they were. Capacity and
     /// index are those of the map, done or refused.
+    #[tactic(auto, using(crate::proofs::Along::sorts))]
     pub fn from_ordered_map(map: OrderedMap<K, V>) -> Result<Self, OrderedMap<K, V>>
         ensures { SortsInto K.eq K.cmp map result }
     {
@@ -66,8 +68,8 @@ impl<K: Ord + Hash, V> SortedMap<K, V> {
         }
     }
 
-    /// As `from_ordered_map`, of a `SmallMap`.
-    #[tactic(auto, using(crate::proofs::Ascending::sorted_ascends))]
+    /// The entries of a `SmallMap`, sorted by key. Memory and refusals are those of [`SortedMap::from_ordered_map`].
+    #[tactic(auto, using(crate::proofs::Along::sorts))]
     pub fn from_small_map(map: SmallMap<K, V>) -> Result<Self, SmallMap<K, V>>
         ensures { SortsInto K.eq K.cmp map result }
     {
@@ -83,7 +85,8 @@ impl<K: Ord + Hash, V> SortedMap<K, V> {
     /// How many entries there are.
     #[inline]
     pub fn len(&self) -> usize
-        ensures { result ≡ length self.now.entries }
+        ensures len { result ≡ length self.now.entries }
+        ensures few { length self.now.entries < 2 ^ 63 }
     {
         self.map.len()
     }
@@ -99,7 +102,10 @@ impl<K: Ord + Hash, V> SortedMap<K, V> {
     /// The value under the query's own hash whose key the query stands for.
     #[inline]
     pub fn get<Q: Query<K> + Hash>(&self, key: Q) -> Option<&V>
-        ensures { FindsValue (Q.stands_for key) (own_hash Q.hash_input key) self.now (option_copied result) }
+        // What is found comes back: a value of the map, which has a key that the query stands for.
+        ensures value { option_copied result ≡ get Q.stands_for Q.hash_input self.now key }
+        ensures member { IfSome (option_copied result) (λ value. IsAmong (map entry_value self.now.entries) value) }
+        ensures key { IfSome result (λ _. HasKey (Q.stands_for key) self.now) }
     {
         self.map.get(key)
     }
@@ -107,7 +113,9 @@ impl<K: Ord + Hash, V> SortedMap<K, V> {
     /// Whether there is an entry under the query's own hash whose key the query stands for.
     #[inline]
     pub fn contains_key<Q: Query<K> + Hash>(&self, key: Q) -> bool
-        ensures { TellsPresence (Q.stands_for key) (own_hash Q.hash_input key) self.now result }
+        // Whether something is found, and then the map has a key that the query stands for.
+        ensures found { result ≡ contains Q.stands_for Q.hash_input self.now key }
+        ensures key { IsTrue result → HasKey (Q.stands_for key) self.now }
     {
         self.map.contains_key(key)
     }
@@ -117,7 +125,8 @@ impl<K: Ord + Hash, V> SortedMap<K, V> {
     #[inline]
     pub fn get_mut<Q: Query<K> + Hash>(&mut self, key: Q) -> Option<&mut V>
         ensures* writes_back { sem 𝓛 (lends_get K.row V.row K.cmp K.eq K.partial_cmp K.hash_input self.entry (Q.stands_for key) (own_hash Q.hash_input key) result) }
-        ensures finds { FindsValue (Q.stands_for key) (own_hash Q.hash_input key) self.old (option_copied_mut result) }
+        ensures value { option_copied_mut result ≡ get Q.stands_for Q.hash_input self.old key }
+        ensures key { IfSome result (λ _. HasKey (Q.stands_for key) self.old) }
     {
         self.map.get_mut(key)
     }
@@ -125,16 +134,19 @@ impl<K: Ord + Hash, V> SortedMap<K, V> {
 
 impl<K: Ord + Hash + Drop, V: Drop> SortedMap<K, V> {
     /// The items, inserted into an empty map in their order, each under its key's own hash, and then sorted by key.
-    /// Where memory is refused, nothing is made and the items are dropped; without items no memory is needed. The
-    /// iterator must end.
+    /// Where memory is refused, nothing is made and the items are dropped; where the iterator bounds that it has none,
+    /// it is not refused. Of items with equal keys the first key stays, with the last value. The iterator must end.
     pub fn from_iter<I: IntoIterator<Item = (K, V)>>(
         alloc: Global,
         iter: I,
     ) -> Result<Self, AllocError>
         requires { IsFiniteIterable I.into_iter_gives I.IntoIter.can_next I.IntoIter.remaining iter }
+        // Done: each key has the last value that the items have for it. The keys ascend, each under its own hash.
         ensures found { IfOk result (FindsLast K.eq K.hash_input I.IntoIter.next_gives I.into_iter_gives iter (λ _. None)) }
+        ensures along { IfOk result (λ map. AscendsAlong K.cmp (keys map)) }
+        ensures own { IfOk result (AreOwn K.hash_input) }
+        // The map as a list, with its capacity and whether it has an index.
         ensures map { IfOk result (CollectsSorted K.eq K.cmp (own_entry K.hash_input) I.IntoIter.next_gives I.into_iter_gives I.IntoIter.remaining iter) }
-        ensures own { IfOk result (λ map. AreOwn K.hash_input map.entries) }
         ensures succeeds { GivesNothing I.into_iter_gives I.IntoIter.next_gives I.IntoIter.remaining iter → IsOk result }
     {
         let map = OrderedMap::from_iter(alloc, iter)?;
@@ -146,14 +158,15 @@ impl<K: Ord + Hash + Drop, V: Drop> SortedMap<K, V> {
 }
 
 impl<K: Ord + Hash + Clone, V: Clone> SortedMap<K, V> {
-    /// A map of clones of the entries under the same hashes, in their order, whose capacity is their number. It has an
-    /// index only where the list is too long to do without. Where memory is refused, also to the clone of a key or a
-    /// value, nothing is made. Without entries no memory is needed. Required is that a clone of a key is equal to it.
+    /// A map of clones of the entries under the same hashes, in their order, so that the same keys are found in it. Its
+    /// capacity is their number, and it has an index exactly where it is longer than `UNINDEXED`. Where memory is
+    /// refused, also to the clone of a key or a value, nothing is made. Without entries it is not refused. Required is
+    /// that a clone of a key is equal to it.
     pub fn clone(&self) -> Result<Self, AllocError>
         // A clone of a key is equal to it.
         requires { IsEqualClone K.eq K.is_clone }
         ensures clones { Clones K.eq K.is_clone V.is_clone self.now result }
-        ensures own { IfOk result (λ map. (feeds : K → HashWrites) → ((x y : K) → IsTrue (K.eq x y) → feeds x ≡ feeds y) → AreOwn feeds self.now.entries → AreOwn feeds map.entries) }
+        ensures along { IfOk result (λ map. AscendsAlong K.cmp (keys map)) }
     {
         Ok(SortedMap {
             map: self.map.clone()?,

@@ -1,19 +1,20 @@
 //! A set whose elements ascend. It alone sees the set inside.
-ghost use Rattle.std.specs.Prelude.{◌≡◌, length, IsOk, IsTrue, IfOk, IfErr, ◌==◌, slice_get};
+ghost use Rattle.std.specs.Prelude.{◌≡◌, ◌<◌, ◌^◌, [], All, drop, false, is_some, length, map, nat_lt, IsOk, IsTrue, IfOk, IfErr, IfSome, ◌==◌, slice_get};
+ghost use Rattle.std.specs.Ordering.{is_gt};
 ghost use Rattle.starlark_small.specs.New.{IsBare};
 ghost use Rattle.starlark_small.specs.Clone.{Clones};
 ghost use Rattle.starlark_hash.specs.Sort.{Ascends};
-ghost use Rattle.std.specs.Hash.{HashWrites};
 ghost use Rattle.std.specs.Iterator.{IsFiniteIterable};
 ghost use Rattle.starlark_hash.specs.Clone.{IsEqualClone};
 ghost use Rattle.starlark_hash.specs.Unit.{IsUnitClone};
-ghost use Rattle.starlark_map.specs.SortedCollect.{GivesNothing, HasOnce, IsSortedSetOf, SortsInto};
-ghost use Rattle.starlark_map.specs.Sorted.{AreOwn, AscendsStrictly};
+ghost use Rattle.starlark_map.specs.SortedCollect.{GivesNothing, SortsInto};
+ghost use Rattle.starlark_map.specs.Sorted.{AscendsAlong, AscendsStrictly, CollectsSorted};
+ghost use Rattle.starlark_small.specs.Collect.{insert_all};
+ghost use Rattle.starlark_small.specs.Index.{unindexed};
+ghost use Rattle.starlark_sets.specs.Collect.{HasEach, own_element};
 ghost use Rattle.std.specs.Option.{option_copied, option_map};
 ghost use Rattle.starlark_hash.specs.Entries.{IsSingle, entry_key};
-ghost use Rattle.starlark_hash.specs.Hasher.{own_hash};
-ghost use Rattle.starlark_small.specs.Lookup.{TellsPresence};
-ghost use Rattle.starlark_sets.specs.Lookup.{ShowsElement};
+ghost use Rattle.starlark_small.specs.Lookup.{AreOwn, HasKey, contains, get_key, keys};
 
 mod compare;
 mod iter;
@@ -55,10 +56,12 @@ impl<T: Ord + Hash> SortedSet<T> {
     }
 
     /// The elements of a set that ascends already, which is required.
+    #[tactic(auto, using(crate::proofs::Along::along))]
     #[inline]
     pub fn new_unchecked(inner: OrderedSet<T>) -> Self
         requires ascends { Ascends T.cmp inner.entries }
-        ensures { result ≡ inner }
+        ensures same { result ≡ inner }
+        ensures along { AscendsAlong T.cmp (keys result) }
     {
         SortedSet { inner }
     }
@@ -66,6 +69,7 @@ impl<T: Ord + Hash> SortedSet<T> {
     /// The elements of the set, sorted; equal ones, under different hashes, keep their order. Where they ascend already
     /// it asks for no memory. Where memory is refused, the set is handed back with its elements as they were. Capacity
     /// and index are those of the set, done or refused.
+    #[tactic(auto, using(crate::proofs::Along::sorts))]
     pub fn from_ordered_set(set: OrderedSet<T>) -> Result<Self, OrderedSet<T>>
         ensures { SortsInto T.eq T.cmp set result }
     {
@@ -76,8 +80,8 @@ impl<T: Ord + Hash> SortedSet<T> {
         }
     }
 
-    /// As `from_ordered_set`, of a `SmallSet`.
-    #[tactic(auto, using(crate::proofs::Ascending::sorted_ascends))]
+    /// The elements of a `SmallSet`, sorted. Memory and refusals are those of [`SortedSet::from_ordered_set`].
+    #[tactic(auto, using(crate::proofs::Along::sorts))]
     pub fn from_small_set(set: SmallSet<T>) -> Result<Self, SmallSet<T>>
         ensures { SortsInto T.eq T.cmp set result }
     {
@@ -93,7 +97,8 @@ impl<T: Ord + Hash> SortedSet<T> {
     /// How many elements there are.
     #[inline]
     pub fn len(&self) -> usize
-        ensures { result ≡ length self.now.entries }
+        ensures len { result ≡ length self.now.entries }
+        ensures few { length self.now.entries < 2 ^ 63 }
     {
         self.inner.len()
     }
@@ -109,7 +114,10 @@ impl<T: Ord + Hash> SortedSet<T> {
     /// The element under the query's own hash that the query stands for.
     #[inline]
     pub fn get<Q: Query<T> + Hash>(&self, value: Q) -> Option<&T>
-        ensures { ShowsElement (Q.stands_for value) (own_hash Q.hash_input value) self.now result }
+        // The stored element that is found comes back, and the query stands for it.
+        ensures element { option_copied result ≡ get_key Q.stands_for Q.hash_input self.now value }
+        ensures there { is_some result ≡ contains Q.stands_for Q.hash_input self.now value }
+        ensures equivalent { IfSome result (λ element. IsTrue (Q.stands_for value element.now)) }
     {
         self.inner.get(value)
     }
@@ -117,7 +125,9 @@ impl<T: Ord + Hash> SortedSet<T> {
     /// Whether there is an element under the query's own hash that the query stands for.
     #[inline]
     pub fn contains<Q: Query<T> + Hash>(&self, value: Q) -> bool
-        ensures { TellsPresence (Q.stands_for value) (own_hash Q.hash_input value) self.now result }
+        // Whether an element is found, and then the set has one that the query stands for.
+        ensures found { result ≡ contains Q.stands_for Q.hash_input self.now value }
+        ensures key { IsTrue result → HasKey (Q.stands_for value) self.now }
     {
         self.inner.contains(value)
     }
@@ -126,10 +136,13 @@ impl<T: Ord + Hash> SortedSet<T> {
     /// where each stands under its own hash, they ascend strictly.
     #[inline]
     pub fn get_index(&self, index: usize) -> Option<&T>
+        // The element there comes back, and it is not greater than any from there on: the first is not greater than any.
         ensures element { option_copied result ≡ option_map entry_key (slice_get self.now.entries index) }
+        ensures least { IfSome result (λ element. All (λ other. is_gt (T.cmp element.now other) ≡ false) (drop index (keys self.now))) }
+        // The order of the elements.
         ensures single { IsSingle T.eq self.now.entries }
         ensures ascends { Ascends T.cmp self.now.entries }
-        ensures strictly { AreOwn T.hash_input self.now.entries → AscendsStrictly T.cmp self.now.entries }
+        ensures strictly { AreOwn T.hash_input self.now → AscendsStrictly T.cmp self.now.entries }
     {
         prove!(self.inner.iter_hashed().len() == self.inner.len());
         self.inner.get_index(index)
@@ -141,7 +154,15 @@ impl<T: Ord + Hash + Drop> SortedSet<T> {
     /// is the length of the vector, and there is an index exactly where that is above `UNINDEXED`. Where memory is
     /// refused, the vector is handed back as it was; without items no memory is needed.
     pub fn from_sorted_vec(vec: SortedVec<T>) -> Result<Self, SortedVec<T>>
-        ensures has_once { IfOk result (HasOnce T.eq T.cmp T.hash_input vec) }
+        // Done: the items were inserted in their order. The elements ascend, with no two equal, each under its own hash.
+        ensures entries { IfOk result (λ set. set.entries ≡ insert_all T.eq [] (map (own_element T.hash_input) vec)) }
+        ensures along { IfOk result (λ set. AscendsAlong T.cmp (keys set)) }
+        ensures strictly { IfOk result (λ set. AscendsStrictly T.cmp set.entries) }
+        ensures own { IfOk result (AreOwn T.hash_input) }
+        // Its memory.
+        ensures capacity { IfOk result (λ set. set.capacity ≡ length vec) }
+        ensures indexed { IfOk result (λ set. set.indexed ≡ nat_lt unindexed (length vec)) }
+        // Refused, which does not happen without items: the vector comes back.
         ensures handed_back { IfErr result (λ source. source ≡ vec) }
         ensures succeeds { length vec ≡ 0 → IsOk result }
     {
@@ -155,10 +176,16 @@ impl<T: Ord + Hash + Drop> SortedSet<T> {
     }
 
     /// The items, inserted into an empty set in their order, each under its own hash, and then sorted. Where memory is
-    /// refused, nothing is made and the items are dropped; without items no memory is needed. The iterator must end.
+    /// refused, nothing is made and the items are dropped; where the iterator bounds that it has none, it is not
+    /// refused. Of equal items the first stays. The iterator must end.
     pub fn from_iter<I: IntoIterator<Item = T>>(alloc: Global, iter: I) -> Result<Self, AllocError>
         requires { IsFiniteIterable I.into_iter_gives I.IntoIter.can_next I.IntoIter.remaining iter }
-        ensures made { IfOk result (IsSortedSetOf T.eq T.cmp T.hash_input I.IntoIter.next_gives I.into_iter_gives I.IntoIter.remaining iter) }
+        // Done: the set has each of the items, and nothing else. The elements ascend, each under its own hash.
+        ensures found { IfOk result (HasEach T.eq T.hash_input I.IntoIter.next_gives I.into_iter_gives iter (λ _. false)) }
+        ensures along { IfOk result (λ set. AscendsAlong T.cmp (keys set)) }
+        ensures own { IfOk result (AreOwn T.hash_input) }
+        // The set as a list, with its capacity and whether it has an index.
+        ensures set { IfOk result (CollectsSorted T.eq T.cmp (own_element T.hash_input) I.IntoIter.next_gives I.into_iter_gives I.IntoIter.remaining iter) }
         ensures succeeds { GivesNothing I.into_iter_gives I.IntoIter.next_gives I.IntoIter.remaining iter → IsOk result }
     {
         let set = OrderedSet::from_iter(alloc, iter)?;
@@ -170,14 +197,15 @@ impl<T: Ord + Hash + Drop> SortedSet<T> {
 }
 
 impl<T: Ord + Hash + Clone> SortedSet<T> {
-    /// A set of clones of the elements under the same hashes, in their order, whose capacity is their number. It has an
-    /// index only where the list is too long to do without. Where memory is refused, also to the clone of an element,
-    /// nothing is made. Without elements no memory is needed. Required is that a clone of an element is equal to it.
+    /// A set of clones of the elements under the same hashes, in their order, so that the same elements are found in it.
+    /// Its capacity is their number, and it has an index exactly where it is longer than `UNINDEXED`. Where memory is
+    /// refused, also to the clone of an element, nothing is made. Without elements it is not refused. Required is that a
+    /// clone of an element is equal to it.
     pub fn clone(&self) -> Result<Self, AllocError>
         // A clone of an element is equal to it.
         requires { IsEqualClone T.eq T.is_clone }
         ensures clones { Clones T.eq T.is_clone IsUnitClone self.now result }
-        ensures own { IfOk result (λ set. (feeds : T → HashWrites) → ((x y : T) → IsTrue (T.eq x y) → feeds x ≡ feeds y) → AreOwn feeds self.now.entries → AreOwn feeds set.entries) }
+        ensures along { IfOk result (λ set. AscendsAlong T.cmp (keys set)) }
     {
         Ok(SortedSet {
             inner: self.inner.clone()?,

@@ -1,10 +1,10 @@
 //! A vector whose items ascend. It alone sees the vector inside.
-ghost use Rattle.starlark_map.specs.SortedCollect.{HasEveryItem, IsSortedFrom};
+ghost use Rattle.starlark_map.specs.SortedCollect.{HasEveryItem};
 ghost use Rattle.std.specs.Iterator.Adapters.{IterYieldsInOrder, IterYieldsInReverse};
 ghost use Rattle.std.specs.Iterator.Runs.{EveryRun, ItemsAre};
 ghost use Rattle.std.specs.Iterator.{IsFiniteIterable};
 ghost use Rattle.std.specs.List.{AllZip};
-ghost use Rattle.std.specs.List.Sorted.{IsSorted};
+ghost use Rattle.std.specs.List.Sorted.{IsPermutation, IsSorted, IsStable};
 ghost use Rattle.std.specs.Prelude.{◌≡◌, ◌^◌, ◌<◌, ◌≤◌, [], length, IsOk, IfOk, IfErr};
 ghost use Rattle.std.specs.Slice.Iter.{iter_rest};
 ghost use Rattle.std.specs.Vec.Iter.{into_iter_items, into_iter_len, into_iter_steps};
@@ -59,7 +59,11 @@ impl<T: Ord> SortedVec<T> {
     /// Every item of the vector, sorted; equal ones keep their order. Where memory is refused, the vector
     /// is handed back as it was. Up to 20 items need none.
     pub fn from_vec(vec: Vec<T>) -> Result<Self, Vec<T>>
-        ensures sorted { IfOk result (IsSortedFrom T.cmp vec.items) }
+        // Done: every item, as often as it was there, in ascending order; equal ones keep their order.
+        ensures every_item { IfOk result (IsPermutation vec.items) }
+        ensures ascends { IfOk result (IsSorted T.cmp) }
+        ensures stable { IfOk result (IsStable T.cmp vec.items) }
+        // Refused, which does not happen up to 20 items: the vector comes back.
         ensures handed_back { IfErr result (λ source. source.items ≡ vec.items) }
         ensures succeeds { length vec.items ≤ 20 → IsOk result }
     {

@@ -7,7 +7,7 @@ ghost use Rattle.starlark_hash.specs.Entries.{IsSingle};
 ghost use Rattle.starlark_hash.specs.Sort.{Ascends};
 ghost use Rattle.starlark_sets.specs.Difference.{lacks};
 ghost use Rattle.starlark_sets.specs.Union.{fits_in};
-ghost use Rattle.starlark_map.specs.SortedUnion.{ComesNext, Follows, OwnNext, RiseSteps, after_own, comes_first, elements_under, own_rest, rise_rest, shown};
+ghost use Rattle.starlark_map.specs.SortedUnion.{ComesNext, Follows, OwnNext, RiseSteps, after_own, comes_first, elements_under, own_rest, rise_rest, shown_element};
 
 use starlark_hash::Hashed;
 use starlark_sets::{IterHashed, OrderedSet};
@@ -122,9 +122,10 @@ fn next_before<'a, T: Ord>(
 
 // Whether a set has an element that comes before all that is left of it. Only one that is not less than the last that was
 // given can be there.
+#[tactic(auto, using(starlark_small::proofs::CallerLookup::look_ups))]
 fn is_given<T: Ord>(element: Hashed<&T>, last: Option<Hashed<&T>>, there: &OrderedSet<T>) -> bool
-    requires { ComesNext T.cmp last there.now.entries (shown element) }
-    ensures { result ≡ not (lacks T.eq there.now.entries (shown element.entry)) }
+    requires { ComesNext T.cmp last there.now.entries (shown_element element) }
+    ensures { result ≡ not (lacks T.eq there.now.entries (shown_element element.entry)) }
 {
     match last {
         None => false,
@@ -139,7 +140,7 @@ fn is_given<T: Ord>(element: Hashed<&T>, last: Option<Hashed<&T>>, there: &Order
 
 // Whether an element comes before all that is left of a list that ascends.
 fn stands_before<T: Ord>(element: Hashed<&T>, left: &Ahead<'_, T>) -> bool
-    ensures { result ≡ comes_first T.cmp left.now (shown element.entry) }
+    ensures { result ≡ comes_first T.cmp left.now (shown_element element.entry) }
 {
     match left.first() {
         None => true,
@@ -185,14 +186,14 @@ impl<'a, T: Ord> Ahead<'a, T> {
 
     // The next element, which stays.
     fn first(&self) -> Option<Hashed<&'a T>>
-        ensures first { MatchOption result (self.now ≡ []) (λ h. self.now ≡ shown h ∷ drop 1 self.now) }
+        ensures first { MatchOption result (self.now ≡ []) (λ h. self.now ≡ shown_element h ∷ drop 1 self.now) }
         ensures ascends { Ascends T.cmp self.now }
     {
         self.first
     }
 
     fn take(&mut self) -> Option<Hashed<&'a T>>
-        ensures { TakesFirst shown self.old result self.new }
+        ensures { TakesFirst shown_element self.old result self.new }
     {
         let first = self.first?;
         self.first = self.rest.next();

@@ -1,6 +1,6 @@
 //! Why a JSON value is not read.
 ghost use Rattle.std.specs.Prelude.{◌≡◌, Some};
-ghost use Rattle.starlark_map.specs.JsonFaults.{text_of};
+ghost use Rattle.starlark_map.specs.JsonFaults.{fault_text};
 ghost use Rattle.starlark_map.specs.declared.json.fault.JsonFault.TheVariants.{Memory as OutOfMemory};
 
 use starlark_hash::NoRoom;
@@ -24,7 +24,7 @@ pub enum JsonFault {
 }
 
 impl fmt::Display for JsonFault {
-    ghost output = { λ fault. Some (text_of fault) };
+    ghost output = { λ fault. Some (fault_text fault) };
 
     fn fmt<W: fmt::Write>(&self, f: &mut fmt::Formatter<W>) -> fmt::Result {
         f.write_str(match self {

@@ -9,7 +9,7 @@ ghost use Rattle.std.specs.List.Sorted.{IsStrictlySortedBy};
 ghost use Rattle.std.specs.Option.{option_map};
 ghost use Rattle.std.specs.Str.{bytes_eq};
 ghost use Rattle.starlark_map.specs.JsonObjects.{object_of, last_value, integer_of, map_entries, IsMapFault};
-ghost use Rattle.starlark_map.specs.JsonTexts.{own_text, pairs_of, text_cmp, text_entries, texts_of};
+ghost use Rattle.starlark_map.specs.JsonTexts.{own_text, text_pairs_of, text_cmp, text_entries, texts_of};
 
 use super::fault::JsonFault;
 use serde_json::{Map, Value};
@@ -19,8 +19,8 @@ use std::alloc::{AllocError, Global};
 /// The object of a map: each key once, with the value of its last index, as it may stand under two hashes. It is
 /// refused for memory alone, and then nothing is made; an empty map asks for none.
 pub fn map_to_value(alloc: Global, map: &SmallMap<String, i64>) -> Result<Value, AllocError>
-    ensures object { IfOk result (λ value. view value ≡ object_of (pairs_of map.now.entries)) }
-    ensures members { IfOk result (λ value. (key : List ℕ) → get key (view value) ≡ option_map (λ n. number (of_integer n)) (last_value (pairs_of map.now.entries) key)) }
+    ensures object { IfOk result (λ value. view value ≡ object_of (text_pairs_of map.now.entries)) }
+    ensures members { IfOk result (λ value. (key : List ℕ) → get key (view value) ≡ option_map (λ n. number (of_integer n)) (last_value (text_pairs_of map.now.entries) key)) }
     ensures succeeds { map.now.entries ≡ [] → IsOk result }
 {
     let mut members = Map::new(alloc);

@@ -5,7 +5,8 @@ ghost use Rattle.std.specs.Map.Iter.{deref, deref_pair};
 ghost use Rattle.starlark_hash.specs.Entries.{IsSingle, entry_key, entry_value, pair_of};
 ghost use Rattle.starlark_hash.specs.Sort.{Ascends};
 ghost use Rattle.starlark_small.specs.Iter.{deref_entry, GivesEach, ShowsEach, ShowsValues};
-ghost use Rattle.starlark_map.specs.Sorted.{AreOwn, AscendsAlong, AscendsStrictly};
+ghost use Rattle.starlark_small.specs.Lookup.{AreOwn};
+ghost use Rattle.starlark_map.specs.Sorted.{AscendsAlong, AscendsStrictly};
 ghost use Rattle.std.specs.Borrow.{sem};
 ghost use Rattle.starlark_small.specs.Lend.{KeepsAllButValues};
 ghost use Rattle.starlark_map.specs.SortedLend.{values_follow};
@@ -54,7 +55,7 @@ impl<K: Ord + Hash, V> SortedMap<K, V> {
         ensures entries { result ≡ self.now.entries }
         ensures single { IsSingle K.eq self.now.entries }
         ensures ascends { Ascends K.cmp self.now.entries }
-        ensures strictly { AreOwn K.hash_input self.now.entries → AscendsStrictly K.cmp self.now.entries }
+        ensures strictly { AreOwn K.hash_input self.now → AscendsStrictly K.cmp self.now.entries }
         ensures runs { ShowsEach self.now.entries result (deref_entry {K = K} {V = V}) }
     {
         self.map.iter_hashed()

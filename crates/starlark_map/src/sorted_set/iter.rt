@@ -3,7 +3,8 @@ ghost use Rattle.std.specs.Prelude.{◌≡◌, ◌^◌, ◌<◌, length, map};
 ghost use Rattle.std.specs.Map.Iter.{deref};
 ghost use Rattle.starlark_hash.specs.Entries.{IsSingle, entry_key};
 ghost use Rattle.starlark_hash.specs.Sort.{Ascends};
-ghost use Rattle.starlark_map.specs.Sorted.{AreOwn, AscendsAlong, AscendsStrictly};
+ghost use Rattle.starlark_small.specs.Lookup.{AreOwn};
+ghost use Rattle.starlark_map.specs.Sorted.{AscendsAlong, AscendsStrictly};
 ghost use Rattle.starlark_map.specs.SortedUnion.{GivesRise, ShowsRise, rise, rise_rest};
 ghost use Rattle.starlark_small.specs.Iter.{GivesEach, ShowsEach};
 
@@ -22,7 +23,7 @@ impl<T: Ord + Hash> SortedSet<T> {
         ensures single { IsSingle T.eq self.now.entries }
         ensures ascends { Ascends T.cmp self.now.entries }
         ensures along { AscendsAlong T.cmp result }
-        ensures strictly { AreOwn T.hash_input self.now.entries → AscendsStrictly T.cmp self.now.entries }
+        ensures strictly { AreOwn T.hash_input self.now → AscendsStrictly T.cmp self.now.entries }
         ensures runs { ShowsEach self.now.entries result (deref {X = T}) }
     {
         prove!(self.inner.iter_hashed().len() == self.inner.len());
@@ -39,7 +40,7 @@ impl<T: Ord + Hash> SortedSet<T> {
         ensures left { result ≡ record { left = self.now.entries; right = other.now.entries; there = self.now.entries } }
         ensures single { IsSingle T.eq (rise T.eq T.cmp self.now.entries other.now.entries) }
         ensures ascends { Ascends T.cmp (rise T.eq T.cmp self.now.entries other.now.entries) }
-        ensures strictly { AreOwn T.hash_input self.now.entries → AreOwn T.hash_input other.now.entries → AscendsStrictly T.cmp (rise T.eq T.cmp self.now.entries other.now.entries) }
+        ensures strictly { AreOwn T.hash_input self.now → AreOwn T.hash_input other.now → AscendsStrictly T.cmp (rise T.eq T.cmp self.now.entries other.now.entries) }
         ensures fits { length (rise_rest T.eq T.cmp result) < 2 ^ 64 }
         ensures gives { GivesRise T.cmp (length self.now.entries) (length other.now.entries) (rise_rest T.eq T.cmp result) }
         ensures runs { ShowsRise T.eq T.cmp }
@@ -72,7 +73,7 @@ impl<T: Ord + Hash + Drop> IntoIterator for SortedSet<T> {
     fn into_iter(self) -> IntoIter<T>
         ensures into_iter_gives { (result ≡ map entry_key self.entries) × Ascends T.cmp self.entries × GivesEach self.entries result T }
         ensures single { IsSingle T.eq self.entries }
-        ensures strictly { AreOwn T.hash_input self.entries → AscendsStrictly T.cmp self.entries }
+        ensures strictly { AreOwn T.hash_input self → AscendsStrictly T.cmp self.entries }
     {
         prove!(self.inner.iter_hashed().len() == self.inner.len());
         self.inner.into_iter()
@@ -91,7 +92,7 @@ impl<'a, T: Ord + Hash> IntoIterator for &'a SortedSet<T> {
     fn into_iter(self) -> Iter<'a, T>
         ensures into_iter_gives { (result ≡ map entry_key self.now.entries) × Ascends T.cmp self.now.entries × ShowsEach self.now.entries result (deref {X = T}) }
         ensures single { IsSingle T.eq self.now.entries }
-        ensures strictly { AreOwn T.hash_input self.now.entries → AscendsStrictly T.cmp self.now.entries }
+        ensures strictly { AreOwn T.hash_input self.now → AscendsStrictly T.cmp self.now.entries }
     {
         self.iter()
     }

@@ -2,7 +2,7 @@ use Rattle.starlark_hash.proofs.Common.{◌≡◌, ap, ◌∙◌, map, rules}
 use Rattle.serde_json.specs.Data.{object}
 use Rattle.serde_json.specs.Find.{get}
 use Rattle.starlark_hash.specs.Entries.{pair_of}
-use Rattle.starlark_map.specs.JsonTexts.{pairs_of}
+use Rattle.starlark_map.specs.JsonTexts.{text_pairs_of}
 use Rattle.starlark_map.proofs.Writing.{all_put, get_member-put_all}
 use Rattle.starlark_map.proofs.json.map.map_to_value.Goals as goal
 
@@ -13,4 +13,4 @@ returns-clause-object c =
     c.from.ensures ∙ ap object (all_put es _ _ _ walk c.in-None.ensures.steps.0 c.loop-key.invariant.0)
 
 pub returns-clause-members : goal.returns-clause-members
-returns-clause-members c key = ap (get key) (returns-clause-object c) ∙ get_member-put_all key (pairs_of c.args.map.now.entries)
+returns-clause-members c key = ap (get key) (returns-clause-object c) ∙ get_member-put_all key (text_pairs_of c.args.map.now.entries)

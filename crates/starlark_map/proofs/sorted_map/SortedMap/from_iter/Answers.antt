@@ -1,14 +1,8 @@
-use Rattle.starlark_hash.proofs.Common.{[], map, refl, ap, ◌∙◌}
+use Rattle.starlark_hash.proofs.Common.{[], map, ap, ◌∙◌}
 use Rattle.starlark_small.specs.Collect.{insert_all, own_entry}
 use Rattle.starlark_map.proofs.Ascending.{Ascends-empty}
 use Rattle.starlark_hash.specs.Hasher.{own_hash}
-use Rattle.starlark_map.proofs.OwnHashes.{sorted-own}
 use Rattle.starlark_map.proofs.sorted_map.SortedMap.from_iter.Goals as goal
-
-pub returns-in-Ok-clause-own : goal.returns-in-Ok-clause-own
-returns-in-Ok-clause-own g c =
-    let made = c.in_ok-map.ensures.made.map in
-    sorted-own g.K.PartialEq.eq g.K.Hash.hash_input (own_entry g.K.Hash.hash_input) (λ p. refl) g.K.Ord.cmp made.items c.in_ok-map.map.entries c.in-Ok.sorted.entries made.entries c.in-Ok.ensures.sorted.0
 
 pub returns-clause-succeeds : goal.returns-clause-succeeds
 returns-clause-succeeds g c = λ nothing.

@@ -1,5 +1,10 @@
+use Rattle.starlark_map.proofs.Along.{least_at}
 use Rattle.starlark_map.proofs.Ascending.{Ascends-strictly}
 use Rattle.starlark_map.proofs.sorted_set.SortedSet.get_index.Goals as goal
+
+pub returns-clause-least : goal.returns-clause-least
+returns-clause-least g c =
+    rw (← c.self.view_is) (least_at g.met.T.Ord.total c.self.inside.inner.entries c.args.index c.get_index.result c.self.invariant c.get_index.ensures)
 
 pub returns-clause-strictly : goal.returns-clause-strictly
 returns-clause-strictly g c =

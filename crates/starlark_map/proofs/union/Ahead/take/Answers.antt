@@ -2,7 +2,7 @@ use Rattle.starlark_hash.proofs.Common.{◌≡◌, ◌∷◌, length, ap, sym, s
 use Rattle.starlark_hash.specs.Entries.{IsSingle}
 use Rattle.starlark_hash.specs.Sort.{Ascends}
 use Rattle.starlark_sets.proofs.Differences.{IsSingle-tail}
-use Rattle.starlark_map.specs.SortedUnion.{ahead, elements_under, shown}
+use Rattle.starlark_map.specs.SortedUnion.{ahead, elements_under, shown_element}
 use Rattle.starlark_map.proofs.Along.{Ascends-tail}
 use Rattle.starlark_map.proofs.Rising.{ahead-of}
 use Rattle.starlark_map.proofs.union.Ahead.take.Goals as goal
@@ -10,7 +10,7 @@ use Rattle.starlark_map.proofs.union.Ahead.take.Goals as goal
 pub invariant_of-self : goal.invariant_of-self
 invariant_of-self g c =
     let eq = g.T.PartialEq.eq in let cmp = g.T.Ord.cmp in let s = c.self.inside in
-    let h = shown c.in_ok-first.first in
+    let h = shown_element c.in_ok-first.first in
     let at : ahead s.first s.rest ≡ h ∷ elements_under s.rest = ap (λ o. ahead o s.rest) c.in_ok-first.was in
     let same = sym (ahead-of s.rest c.next-self-inside.new.self c.next-self-inside.result c.next-self-inside.ensures.steps) in (
       omega (arith, ap length same, ap length at, c.self.invariant.0),
