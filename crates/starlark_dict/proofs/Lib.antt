@@ -1,0 +1,3 @@
+pub mod OwnPairs
+pub mod Changes
+pub mod Inserted

@@ -1,0 +1,29 @@
+use Rattle.starlark_hash.proofs.Common.{◌∙◌, ap, map, refl}
+use Rattle.starlark_hash.specs.Entries.{pair_of}
+use Rattle.starlark_dict.specs.Dict.{dict_of}
+use Rattle.starlark_dict.proofs.Changes.{length-removed, updated-removed}
+use Rattle.starlark_dict.proofs.Inserted.{memory-kept}
+use Rattle.starlark_dict.proofs.OwnPairs.{found-query, removed-query, unique-own}
+use Rattle.starlark_dict.proofs.dict.Dict.shift_remove.Goals as goal
+
+pub returns : goal.returns
+returns g c =
+    let eq = g.K.PartialEq.eq in
+    let laws = g.met.K.Eq.laws in
+    let test = g.Q.Query.stands_for c.args.key in
+    let one = g.met.Q.Query.respects_eq c.args.key in
+    let old = c.self.inside.map in
+    let new = c.shift_remove.new.self in
+    let es = old.entries in
+    let own = c.self.invariant in
+    let e = c.shift_remove.ensures in
+    let pairs = ap (map pair_of) e.removes.entries ∙ removed-query g.Q.Query.stands_for g.Q.Hash.hash_input g.K.Hash.hash_input g.met.Q.HashQuery.feeds_alike c.args.key es own in
+    let unique = unique-own eq g.K.Hash.hash_input g.met.K.Hash.respects_eq es c.iter_hashed-entries.ensures.single own in
+    rw (← c.self.view_is)
+    (record {
+      value = e.value ∙ found-query g.Q.Query.stands_for g.Q.Hash.hash_input g.K.Hash.hash_input g.met.Q.HashQuery.feeds_alike c.args.key es own;
+      updates = updated-removed eq laws test one (map pair_of es) unique (dict_of old) (dict_of new) refl pairs;
+      entries = pairs;
+      len = length-removed eq laws test one (map pair_of es) (map pair_of new.entries) pairs c.shift_remove.result (e.value ∙ found-query g.Q.Query.stands_for g.Q.Hash.hash_input g.K.Hash.hash_input g.met.Q.HashQuery.feeds_alike c.args.key es own);
+      memory = memory-kept old new e.removes.kept;
+    })

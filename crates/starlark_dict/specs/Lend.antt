@@ -1,0 +1,15 @@
+-- What a `Dict` ends as, once a reference into it has ended.
+use Rattle.std.specs.Prelude.{◌≡◌, Bool, Option}
+use Rattle.std.specs.Borrow.{Fml, RattleType, MutBor, LendsSo}
+use Rattle.std.specs.HashMap.Lent.{HashMembers}
+use Rattle.starlark_dict.specs.Dict.{Dict, WritesThrough}
+use Rattle.starlark_dict.specs.contracts.dict.Dict as C
+
+-- a map's type, as the logic holds it
+abbrev pub dict_row : (K V : RattleType) → HashMembers K.Denot → RattleType
+dict_row K V key = C.the_row K V (record { eq = key.eq }) (record { hash_input = key.hash_input })
+
+module _ (K V : RattleType) (key : HashMembers K.Denot) (d : MutBor (Dict K.Denot V.Denot)) where
+  -- the key that passes the test has the last value written through r, and at `None` the map stays as it is
+  abbrev pub lends_get : (K.Denot → Bool) → Option (MutBor V.Denot) → Fml
+  lends_get test r = LendsSo (dict_row K V key) V d r (λ n w. WritesThrough key.eq test d.now w n) (λ n. n ≡ d.now)

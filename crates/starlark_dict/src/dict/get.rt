@@ -1,0 +1,73 @@
+//! Look-ups, by a key and by an index.
+ghost use Rattle.std.specs.Prelude.{◌≡◌, ◌-◌, ◌<◌, is_some, slice_get, IfSome};
+ghost use Rattle.std.specs.List.{IsAmong};
+ghost use Rattle.std.specs.Map.Iter.{deref_pair};
+ghost use Rattle.std.specs.Option.{option_copied, option_map};
+ghost use Rattle.starlark_dict.specs.Dict.{dict_len, get_by, get_key_by, index_of_by, values};
+
+use super::Dict;
+use starlark_hash::HashQuery;
+use std::hash::Hash;
+
+impl<K: Eq + Hash, V> Dict<K, V> {
+    /// The value at the key that the query stands for.
+    #[inline(always)]
+    pub fn get<Q: HashQuery<K>>(&self, key: Q) -> Option<&V>
+        ensures value { option_copied result ≡ get_by (Q.stands_for key) self.now }
+        ensures member { IfSome result (λ value. IsAmong (values self.now) value.now) }
+    {
+        self.map.get(key)
+    }
+
+    /// Whether there is a key that the query stands for.
+    #[inline(always)]
+    pub fn contains_key<Q: HashQuery<K>>(&self, key: Q) -> bool
+        ensures { result ≡ is_some (get_by (Q.stands_for key) self.now) }
+    {
+        self.map.contains_key(key)
+    }
+
+    /// The index of the key that the query stands for.
+    #[inline(always)]
+    pub fn get_index_of<Q: HashQuery<K>>(&self, key: Q) -> Option<usize>
+        ensures index { result ≡ index_of_by (Q.stands_for key) self.now }
+        ensures found { is_some result ≡ is_some (get_by (Q.stands_for key) self.now) }
+        ensures within { IfSome result (λ i. i < dict_len self.now) }
+    {
+        self.map.get_index_of(key)
+    }
+
+    /// The index of the key that the query stands for, with the stored key and the value there.
+    #[inline(always)]
+    pub fn get_full<Q: HashQuery<K>>(&self, key: Q) -> Option<(usize, &K, &V)>
+        ensures index { option_map (λ found. found.0) result ≡ index_of_by (Q.stands_for key) self.now }
+        ensures key { option_map (λ found. found.1.now) result ≡ get_key_by (Q.stands_for key) self.now }
+        ensures value { option_map (λ found. found.2.now) result ≡ get_by (Q.stands_for key) self.now }
+    {
+        self.map.get_full(key)
+    }
+
+    /// The key and the value at an index; `None` past the end.
+    #[inline]
+    pub fn get_index(&self, index: usize) -> Option<(&K, &V)>
+        ensures entry { option_map deref_pair result ≡ slice_get self.now.entries index }
+    {
+        self.map.get_index(index)
+    }
+
+    /// The first key and its value, if there is one.
+    #[inline]
+    pub fn first(&self) -> Option<(&K, &V)>
+        ensures entry { option_map deref_pair result ≡ slice_get self.now.entries 0 }
+    {
+        self.map.first()
+    }
+
+    /// The last key and its value, if there is one.
+    #[inline]
+    pub fn last(&self) -> Option<(&K, &V)>
+        ensures entry { option_map deref_pair result ≡ slice_get self.now.entries (dict_len self.now - 1) }
+    {
+        self.map.last()
+    }
+}
