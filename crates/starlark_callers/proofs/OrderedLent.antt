@@ -4,7 +4,8 @@ use denote.Follow.{follows, follows_by, follows_so, such_by, followed, follows_t
 use mathlib.Core.Option.{Option, none, some}
 use Rattle.starlark_hash.proofs.Common.{false≢true, IsOk, IsErr}
 use Rattle.std.specs.declared.cmp.PartialEq as eq
-use Rattle.starlark_hash.specs.Entries.{match_of}
+use Rattle.starlark_hash.specs.HashValue.{hash_of, key_of}
+use Rattle.starlark_hash.specs.Lookup.{found}
 use Rattle.starlark_callers.proofs.LookedUp.{put_there, put_new}
 use Rattle.starlark_callers.specs.Lend.{IsPutUnder}
 use Rattle.starlark_small.specs.Insert.{IsRefused}
@@ -18,17 +19,17 @@ module _ {K V : Type 0} {g : eq.Ghosts K} (same : K → K → Bool) (m : Map K V
   held (Occupied o) is = is.0
   held (Vacant v) is = is.0
 
-  put_under : (e : Entry K V g) → Enters same key m e → (value : V) (new : Map K V) → IsPut e value new → Puts e value new → IsPutUnder same m key value new
+  put_under : (e : Entry K V g) → Enters same m key e → (value : V) (new : Map K V) → IsPut e value new → Puts e value new → IsPutUnder same m new key value
   put_under e is value new put puts = record {
     written = put_there same m new key value e is.entry put;
     inserted = put_new same m new key value e is.entry put;
-    entries = is.entries value new puts;
+    entries = (is.inserts value new puts).entries;
     updates = is.updates value new puts;
   }
 
   -- what the map inside ends as, in the words of the ordered map
-  pub put_at : (e : Entry K V g) → Enters same key m e → (r : Result (MutBor V) (NoRoom (Hashed K × V))) (value : V) (new : Map K V)
-      → OnOk r (IsPut e value new) × (IsOk r → Puts e value new) → IsOk r → IsPutUnder same m key value new
+  pub put_at : (e : Entry K V g) → Enters same m key e → (r : Result (MutBor V) (NoRoom (Hashed K × V))) (value : V) (new : Map K V)
+      → OnOk r (IsPut e value new) × (IsOk r → Puts e value new) → IsOk r → IsPutUnder same m new key value
   put_at e is (Ok p) value new put ok = put_under e is value new put.0 (put.1 ok)
   put_at e is (Err b) value new put ok = absurd (false≢true ok)
 
@@ -38,7 +39,7 @@ module _ {K V : Type 0} {g : eq.Ghosts K} (same : K → K → Bool) (m : Map K V
   refused_at e is (Err b) new left = subst (λ n. IsRefused n new) (held e is) left.0
 
   -- it is refused under a key that is lacking alone, and hands all back
-  pub absent_at : (value : V) (e : Entry K V g) → IsEntryOf same m key e → (r : Result (MutBor V) (NoRoom (Hashed K × V))) → ShowsOrGives (λ v. v ≡ value) e r → OnErr r (match_of same m.entries key ≡ None)
+  pub absent_at : (value : V) (e : Entry K V g) → IsEntryOf same m key e → (r : Result (MutBor V) (NoRoom (Hashed K × V))) → ShowsOrGives (λ v. v ≡ value) e r → OnErr r (found (same (key_of key)) (hash_of key) m.entries ≡ None)
   absent_at value e is (Ok p) gives = tt
   absent_at value (Occupied o) is (Err b) gives = absurd gives
   absent_at value (Vacant v) is (Err b) gives = is.1

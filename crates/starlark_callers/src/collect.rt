@@ -1,12 +1,12 @@
 //! Callers that make maps and sets of items, take items in, copy, or join.
 ghost use Rattle.std.specs.Hash as fed;
 ghost use Rattle.std.specs.Map.{update_all};
-ghost use Rattle.std.specs.Prelude.{[], ◌&&◌, ◌+◌, ◌||◌, ◌↔◌, ◌∷◌, ◌≡◌, ◌≤◌, All, Contains, IfOk, IfSome, IsSome, None, OnOk, Some, false, length, map, nat_eq, not, ℕ};
+ghost use Rattle.std.specs.Prelude.{[], ◌&&◌, ◌+◌, ◌||◌, ◌↔◌, ◌∷◌, ◌≡◌, ◌≤◌, All, Contains, IfOk, IfSome, IsSome, None, OnOk, Some, false, length, map, nat_eq, not, true, ℕ};
 ghost use Rattle.std.specs.Set.{is_member};
 ghost use Rattle.starlark_hash.specs.Entries.{pair_of};
 ghost use Rattle.starlark_sets.specs.Difference.{difference_rest};
 ghost use Rattle.starlark_sets.specs.Union.{union_rest};
-ghost use Rattle.starlark_small.specs.Lookup.{AreOwn, AreOwnEntries, contains, get};
+ghost use Rattle.starlark_small.specs.Lookup.{AreOwn, AreOwnEntries, contains, get, keys};
 ghost use Rattle.starlark_hash.specs.Clone.{IsEqualClone};
 ghost use Rattle.starlark_small.specs.Collect.{insert_all};
 ghost use Rattle.starlark_map.specs.Sorted.{AscendsAlong};
@@ -29,12 +29,14 @@ pub fn of_vec<K: Eq + Hash + Drop, V: Drop>(
     SmallMap::from_iter(alloc, items)
 }
 
-/// Puts the pairs of a vector in.
+/// Puts the pairs of a vector in. What was there stays, also where that is refused.
 pub fn add_vec<K: Eq + Hash + Drop, V: Drop>(
     map: &mut SmallMap<K, V>,
     items: Vec<(K, V)>,
 ) -> Result<(), AllocError>
-    ensures { OnOk result ((key : K) → get K.eq K.hash_input map.new key ≡ update_all K.eq (get K.eq K.hash_input map.old) items.items key) }
+    ensures stays { (key : K) → contains K.eq K.hash_input map.old key ≡ true → contains K.eq K.hash_input map.new key ≡ true }
+    ensures longer { length map.old.entries ≤ length map.new.entries }
+    ensures each { OnOk result ((key : K) → get K.eq K.hash_input map.new key ≡ update_all K.eq (get K.eq K.hash_input map.old) items.items key) }
 {
     map.extend(items)?;
     Ok(())
@@ -106,12 +108,13 @@ pub fn copied_numbers(map: &SmallMap<u32, u64>) -> Result<SmallMap<u32, u64>, Al
     map.clone()
 }
 
-/// A sorted map of the pairs of a vector: each key has its last value.
+/// A sorted map of the pairs of a vector: each key has its last value, and the keys ascend.
 pub fn of_vec_sorted<K: Ord + Hash + Drop, V: Drop>(
     alloc: Global,
     items: Vec<(K, V)>,
 ) -> Result<SortedMap<K, V>, AllocError>
-    ensures { IfOk result (λ m. (key : K) → get K.eq K.hash_input m key ≡ update_all K.eq (λ _. None) items.items key) }
+    ensures ascend { IfOk result (λ m. AscendsAlong K.cmp (keys m)) }
+    ensures each { IfOk result (λ m. (key : K) → get K.eq K.hash_input m key ≡ update_all K.eq (λ _. None) items.items key) }
 {
     SortedMap::from_iter(alloc, items)
 }
@@ -128,8 +131,10 @@ pub fn of_elements<T: Eq + Hash + Drop>(
     Ok(made)
 }
 
-/// Puts two numbers into a set; numbers under their own hashes stay so.
+/// Puts two numbers into a set. What was there stays, also where that is refused, and numbers under their own hashes stay so.
 pub fn add_both(set: &mut SmallSet<u32>, a: u32, b: u32) -> Result<(), AllocError>
+    ensures stays { (n : ℕ) → contains nat_eq fed.u32 set.old n ≡ true → contains nat_eq fed.u32 set.new n ≡ true }
+    ensures longer { length set.old.entries ≤ length set.new.entries }
     ensures own { AreOwn fed.u32 set.old → AreOwn fed.u32 set.new }
     ensures each { OnOk result ((n : ℕ) → contains nat_eq fed.u32 set.new n ≡ (contains nat_eq fed.u32 set.old n || is_member nat_eq (a ∷ b ∷ []) n)) }
 {

@@ -1,13 +1,14 @@
-//! Callers that look up.
+//! Callers that look up, and write what they find.
 ghost use Rattle.std.specs.Hash as fed;
 ghost use Rattle.std.specs.Option.{option_map, unwrap_or};
-ghost use Rattle.std.specs.Prelude.{◌≡◌, ◌≤◌, All, IfSome, is_some, map, nat_eq, sum, true};
+ghost use Rattle.std.specs.Prelude.{◌≡◌, ◌<◌, ◌≤◌, All, Contains, IfSome, IsTrue, OnErr, Some, is_some, length, map, nat_eq, sum, true};
+ghost use Rattle.std.specs.Set.{is_member};
 ghost use Rattle.std.specs.Str.{bytes_eq};
 ghost use Rattle.std.specs.String.{string_bytes, string_eq};
 ghost use Rattle.std.specs.declared.alloc.Global.{Global};
 ghost use Rattle.std.specs.declared.string.String.{String};
 ghost use Rattle.starlark_hash.specs.Entries.{entry_value};
-ghost use Rattle.starlark_small.specs.Lookup.{contains, contains_text, get, get_key, get_text};
+ghost use Rattle.starlark_small.specs.Lookup.{AreOwn, contains, contains_text, get, get_key, get_text, keys};
 
 use starlark_hash::{Hashed, TextKey};
 use starlark_map::sorted_set::SortedSet;
@@ -73,6 +74,75 @@ pub fn named_in_both(
         owned.get_hashed(query).copied(),
         borrowed.get_hashed(query).copied(),
     )
+}
+
+/// Whether a number is there: it is one of the keys, under whatever hash.
+pub fn is_key(entries: &SmallMap<u32, u64>, key: u32) -> bool
+    ensures listed { IsTrue result → Contains (keys entries.now) key }
+    ensures member { IsTrue result → is_member nat_eq (keys entries.now) key ≡ true }
+{
+    entries.contains_key(&key)
+}
+
+/// The value at a number, which is one of the keys where there is a value.
+pub fn value_of_key(entries: &SmallMap<u32, u64>, key: u32) -> Option<u64>
+    ensures listed { IfSome result (λ _. Contains (keys entries.now) key) }
+    ensures member { IfSome result (λ _. is_member nat_eq (keys entries.now) key ≡ true) }
+{
+    entries.get(&key).copied()
+}
+
+/// The index of a number, which is one of the keys where there is an index.
+pub fn index_of_key(entries: &SmallMap<u32, u64>, key: u32) -> Option<usize>
+    ensures within { IfSome result (λ index. index < length entries.now.entries) }
+    ensures listed { IfSome result (λ _. Contains (keys entries.now) key) }
+    ensures member { IfSome result (λ _. is_member nat_eq (keys entries.now) key ≡ true) }
+{
+    entries.get_index_of(&key)
+}
+
+/// Writes a value where there is one. Keys under their own hashes stay so, and the value that is there changes nothing.
+pub fn overwrite<K: Eq + Hash>(entries: &mut SmallMap<K, u64>, key: &K, value: u64)
+    ensures keys { keys entries.new ≡ keys entries.old }
+    ensures own { AreOwn K.hash_input entries.old → AreOwn K.hash_input entries.new }
+    ensures same { get K.eq K.hash_input entries.old key.now ≡ Some value → entries.new.entries ≡ entries.old.entries }
+{
+    if let Some(there) = entries.get_mut(key) {
+        *there = value;
+    }
+}
+
+/// Writes 0 at a text. Strings under their own hashes stay so.
+pub fn clear_named(map: &mut SmallMap<String, u32>, name: &str)
+    requires { AreOwn (λ s. fed.str (string_bytes s)) map.old }
+    ensures own { AreOwn (λ s. fed.str (string_bytes s)) map.new }
+    ensures keys { keys map.new ≡ keys map.old }
+{
+    if let Some(value) = map.get_mut(name) {
+        *value = 0;
+    }
+}
+
+/// Raises a number to 8, or leaves it where it is no less than 7.
+pub fn raise(number: &mut u32) -> Result<(), ()>
+    ensures unchanged { OnErr result (number.new ≡ number.old) }
+{
+    if *number < 7 {
+        *number = 8;
+        Ok(())
+    } else {
+        Err(())
+    }
+}
+
+/// Raises the number at a text. Where the number is left, the map is as it was.
+pub fn raise_named(map: &mut SmallMap<String, u32>, name: &str) -> Result<(), ()>
+    ensures unchanged { OnErr result (map.new.entries ≡ map.old.entries) }
+{
+    match map.get_mut(name) {
+        Some(value) => raise(value),
+        None => Err(()),
+    }
 }
 
 /// The value at a key, within a bound that each value meets.

@@ -1,13 +1,12 @@
 //! Callers that insert into maps, or write what is there.
 ghost use Rattle.std.specs.Hash as fed;
-ghost use Rattle.std.specs.Prelude.{◌+◌, ◌≡◌, IfOk, None, OnErr, OnOk, Some, false, if◌then◌else◌, is_some, length, nat_eq, true, ℕ};
+ghost use Rattle.std.specs.Prelude.{◌+◌, ◌<◌, ◌≡◌, All, IfOk, List, None, OnErr, OnOk, Some, false, if◌then◌else◌, is_some, length, map, nat_eq, true, ℕ};
 ghost use Rattle.std.specs.Str.{bytes_eq};
 ghost use Rattle.std.specs.String.{string_bytes, string_eq};
 ghost use Rattle.std.specs.declared.alloc.Global.{Global};
 ghost use Rattle.std.specs.declared.string.String.{String};
-ghost use Rattle.starlark_hash.specs.Entries.{match_of};
-ghost use Rattle.starlark_small.specs.Map.{own_hashed};
-ghost use Rattle.starlark_small.specs.Lookup.{AreOwn, contains, get};
+ghost use Rattle.starlark_hash.specs.Entries.{entry_value};
+ghost use Rattle.starlark_small.specs.Lookup.{AreOwn, contains, get, get_text};
 
 use starlark_hash::{Hashed, NoRoom};
 use starlark_sets::OrderedMap;
@@ -108,8 +107,7 @@ pub fn record_unseen<K: Eq + Hash, V>(
     key: K,
     value: V,
 ) -> Result<usize, NoRoom<(K, V)>>
-    requires { match_of K.eq map.old.entries (own_hashed K.hash_input key) ≡ None }
-    ensures was { get K.eq K.hash_input map.old key ≡ None }
+    requires { get K.eq K.hash_input map.old key ≡ None }
     ensures last { IfOk result (λ i. i + 1 ≡ length map.new.entries) }
     ensures here { OnOk result (get K.eq K.hash_input map.new key ≡ Some value) }
     ensures others { OnOk result ((other : K) → K.eq key other ≡ false → get K.eq K.hash_input map.new other ≡ get K.eq K.hash_input map.old other) }
@@ -130,6 +128,35 @@ pub fn record_named(
     ensures others { OnOk result ((s : String Global) → bytes_eq name.now (string_bytes s) ≡ false → get string_eq (λ s. fed.str (string_bytes s)) map.new s ≡ get string_eq (λ s. fed.str (string_bytes s)) map.old s) }
 {
     map.insert(String::from_str(alloc, name)?, value)?;
+    Ok(())
+}
+
+/// Puts a value at a string: its text has it, and every other text has what it had.
+#[tactic(auto, using(starlark_small::proofs::CallerKept::kept))]
+pub fn record_string(
+    map: &mut SmallMap<String, u64>,
+    name: String,
+    value: u64,
+) -> Result<(), NoRoom<(String, u64)>>
+    ensures here { OnOk result (get_text map.new (string_bytes name) ≡ Some value) }
+    ensures others { OnOk result ((text : List ℕ) → bytes_eq (string_bytes name) text ≡ false → get_text map.new text ≡ get_text map.old text) }
+{
+    map.insert(name, value)?;
+    Ok(())
+}
+
+/// Puts a name in that is lacking, with the next number: each number is below how many there are.
+#[tactic(auto, using(starlark_small::proofs::CallerKept::kept))]
+pub fn number(
+    numbers: &mut SmallMap<String, usize>,
+    name: String,
+) -> Result<(), NoRoom<(String, usize)>>
+    requires lacks { get_text numbers.old (string_bytes name) ≡ None }
+    requires below { All (λ value. value < length numbers.old.entries) (map entry_value numbers.old.entries) }
+    ensures below { OnOk result (All (λ value. value < length numbers.new.entries) (map entry_value numbers.new.entries)) }
+{
+    let next = numbers.len();
+    numbers.insert(name, next)?;
     Ok(())
 }
 
@@ -154,8 +181,7 @@ pub fn numbers(alloc: Global) -> Result<SmallMap<u32, u8>, NoRoom<(u32, u8)>>
     ensures three { IfOk result (λ m. get nat_eq fed.u32 m 3 ≡ Some 31) }
     ensures others { IfOk result (λ m. (key : ℕ) → nat_eq 1 key ≡ false → nat_eq 2 key ≡ false → nat_eq 3 key ≡ false → get nat_eq fed.u32 m key ≡ None) }
 {
-    let mut m = SmallMap::new(alloc);
-    m.insert(3u32, 30u8)?;
+    let mut m = one(alloc, 3, 30)?;
     m.insert(1, 10)?;
     m.insert(2, 20)?;
     m.shift_remove(&2);

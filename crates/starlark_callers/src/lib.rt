@@ -4,6 +4,7 @@
 
 pub mod collect;
 pub mod compare;
+pub mod dict;
 pub mod entries;
 pub mod get;
 pub mod held;
@@ -12,8 +13,10 @@ pub mod lent;
 pub mod nested;
 pub mod own_keys;
 pub mod remove;
+pub mod retain;
 pub mod room;
 pub mod sets;
 pub mod sort;
+pub mod sorted;
 pub mod unordered;
 pub mod walk;

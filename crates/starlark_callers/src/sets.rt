@@ -2,13 +2,12 @@
 ghost use Rattle.std.specs.Fn.{CalledAt};
 ghost use Rattle.std.specs.Hash as fed;
 ghost use Rattle.std.specs.Option.{option_map};
-ghost use Rattle.std.specs.Prelude.{◌+◌, ◌-◌, ◌<◌, ◌≡◌, Bool, IfOk, IfSome, None, OnErr, OnOk, false, filter, if◌then◌else◌, is_some, length, nat_eq, not, slice_get, true, ℕ};
+ghost use Rattle.std.specs.Prelude.{◌+◌, ◌-◌, ◌<◌, ◌≡◌, ◌≤◌, Bool, IfOk, IfSome, OnErr, OnOk, false, filter, if◌then◌else◌, is_some, length, nat_eq, not, slice_get, true, ℕ};
 ghost use Rattle.std.specs.String.{string_bytes};
-ghost use Rattle.starlark_hash.specs.Entries.{entry_key, match_of};
+ghost use Rattle.starlark_hash.specs.Entries.{entry_key};
 ghost use Rattle.starlark_hash.specs.Retain.{TakesInTurn};
 ghost use Rattle.starlark_sets.specs.Retain.{CalledAtElement, TakesElement};
 ghost use Rattle.starlark_small.specs.Lookup.{AreOwn, contains, contains_text};
-ghost use Rattle.starlark_small.specs.Map.{own_hashed};
 
 use starlark_hash::NoRoom;
 use starlark_sets::{OrderedSet, SmallSet};
@@ -36,8 +35,7 @@ pub fn add_own<T: Eq + Hash + Drop>(set: &mut SmallSet<T>, n: T) -> Result<bool,
 
 /// Puts in an element that is lacking, with no look-up before.
 pub fn add_unseen<T: Eq + Hash + Drop>(set: &mut SmallSet<T>, n: T) -> Result<(), NoRoom<T>>
-    requires { match_of T.eq set.old.entries (own_hashed T.hash_input n) ≡ None }
-    ensures was { contains T.eq T.hash_input set.old n ≡ false }
+    requires { contains T.eq T.hash_input set.old n ≡ false }
     ensures count { OnOk result (length set.new.entries ≡ length set.old.entries + 1) }
     ensures here { OnOk result (contains T.eq T.hash_input set.new n ≡ true) }
     ensures others { OnOk result ((other : T) → T.eq n other ≡ false → contains T.eq T.hash_input set.new other ≡ contains T.eq T.hash_input set.old other) }
@@ -90,9 +88,11 @@ pub fn take_last<T: Eq + Hash + Drop>(set: &mut SmallSet<T>) -> Option<T>
     set.pop()
 }
 
-/// Keeps the elements that a test passes; those under their own hashes stay so.
+/// Keeps the elements that a test passes: no more than there were, and none that is new. Those under their own hashes stay so.
 pub fn keep_if<T: Eq + Hash + Drop, F: FnMut(&T) -> bool>(set: &mut SmallSet<T>, keep: F)
     requires { TakesInTurn (CalledAtElement F.FnMut) (TakesElement F.FnMut) keep set.old.entries }
+    ensures fewer { length set.new.entries ≤ length set.old.entries }
+    ensures no_new { (element : T) → contains T.eq T.hash_input set.new element ≡ true → contains T.eq T.hash_input set.old element ≡ true }
     ensures filtered { (test : T → Bool) → ((f : F) (element : T) (keeps : Bool) (left : F) → CalledAt F.FnMut f element keeps left → keeps ≡ test element) → set.new.entries ≡ filter (λ e. test (entry_key e)) set.old.entries }
     ensures own { AreOwn T.hash_input set.old → AreOwn T.hash_input set.new }
 {

@@ -1,11 +1,11 @@
 //! Callers that walk.
 ghost use Rattle.std.specs.Hash as fed;
 ghost use Rattle.std.specs.List.{range_with_len};
-ghost use Rattle.std.specs.Prelude.{[], ◌+◌, ◌<◌, ◌^◌, ◌↔◌, ◌≡◌, ◌≤◌, All, Contains, IfOk, IfSome, IsNone, IsTrue, None, OnOk, Some, count_by, filter, length, map, nat_eq, not, sum, ℕ};
+ghost use Rattle.std.specs.Prelude.{[], ◌+◌, ◌<◌, ◌^◌, ◌↔◌, ◌≡◌, ◌≤◌, All, AllPairs, Contains, IfOk, IfSome, IsNone, IsTrue, None, OnOk, Some, count_by, false, filter, length, map, nat_eq, not, pos, sum, ℕ};
 ghost use Rattle.std.specs.String.{string_bytes, string_eq};
 ghost use Rattle.std.specs.declared.alloc.Global.{Global};
 ghost use Rattle.std.specs.declared.string.String.{String};
-ghost use Rattle.starlark_hash.specs.Entries.{entry_value, pair_of};
+ghost use Rattle.starlark_hash.specs.Entries.{entry_key, entry_value, pair_of};
 ghost use Rattle.starlark_small.specs.Lookup.{AreOwn, contains, get, keys};
 
 use starlark_hash::{Hashed, NoRoom};
@@ -32,6 +32,40 @@ pub fn owned_keys<K: Eq + Drop, V: Drop>(
     ensures { IfOk result (λ all. all.items ≡ keys entries) }
 {
     entries.into_keys().collect(alloc)
+}
+
+/// How many entries there are, as a signed number.
+pub fn signed_len<K: Eq, V>(entries: &SmallMap<K, V>) -> i64
+    ensures { result ≡ pos (length entries.now.entries) }
+{
+    entries.len() as i64
+}
+
+/// How many keys are shown, of which no two are equal.
+pub fn distinct_keys<K: Eq + Hash, V>(entries: &SmallMap<K, V>) -> i64
+    requires { AreOwn K.hash_input entries.now }
+    ensures count { result ≡ pos (length entries.now.entries) }
+    ensures distinct { AllPairs (λ d e. K.eq (entry_key d) (entry_key e) ≡ false) entries.now.entries }
+{
+    entries.keys().len() as i64
+}
+
+/// How many pairs of distinct numbers and their values are shown.
+pub fn distinct_numbers(entries: &SmallMap<u32, u64>) -> i64
+    requires { AreOwn fed.u32 entries.now }
+    ensures count { result ≡ pos (length entries.now.entries) }
+    ensures distinct { AllPairs (λ d e. nat_eq (entry_key d) (entry_key e) ≡ false) entries.now.entries }
+{
+    entries.iter().len() as i64
+}
+
+/// How many values of distinct strings are shown.
+pub fn distinct_names(entries: &SmallMap<String, u32>) -> i64
+    requires { AreOwn (λ s. fed.str (string_bytes s)) entries.now }
+    ensures count { result ≡ pos (length entries.now.entries) }
+    ensures distinct { AllPairs (λ d e. string_eq (entry_key d) (entry_key e) ≡ false) entries.now.entries }
+{
+    entries.values().len() as i64
 }
 
 /// The sum of the values, by the pairs.

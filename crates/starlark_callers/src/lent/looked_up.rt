@@ -1,9 +1,10 @@
 //! Callers that look the entry of a `SmallMap` up under a key, which it may have or lack, and let it go.
 ghost use Rattle.std.specs.Prelude.{◌≡◌, ◌↔◌, is_some, Some, None, IfErr, IfOk, IsSome, IsTrue, OnErr, OnOk};
-ghost use Rattle.starlark_hash.specs.Entries.{match_of, value_at};
+ghost use Rattle.starlark_hash.specs.HashValue.{hash_of, key_of};
+ghost use Rattle.starlark_hash.specs.Lookup.{found};
 ghost use Rattle.starlark_callers.specs.Lend.{with_value_under};
 ghost use Rattle.starlark_small.specs.Insert.{IsInserted, IsRefused};
-ghost use Rattle.starlark_small.specs.Map.{own_hashed};
+ghost use Rattle.starlark_small.specs.Lookup.{get};
 
 use crate::lent::put::put;
 use starlark_hash::{Hashed, NoRoom};
@@ -12,7 +13,7 @@ use std::hash::Hash;
 
 /// Whether a map has this key under this hash. The entry is let go whole, and the map stays.
 pub fn is_there<K: Eq + Drop, V>(map: &mut SmallMap<K, V>, key: Hashed<K>) -> bool
-    ensures there { result ≡ is_some (match_of K.eq map.old.entries key) }
+    ensures there { result ≡ is_some (found (K.eq (key_of key)) (hash_of key) map.old.entries) }
     ensures unchanged { map.new ≡ map.old }
 {
     let entry = map.entry_hashed(key);
@@ -24,7 +25,7 @@ pub fn is_there<K: Eq + Drop, V>(map: &mut SmallMap<K, V>, key: Hashed<K>) -> bo
 
 /// The value that a map has under a key's own hash. The entry is matched and let go in each arm, and the map stays.
 pub fn look_up<K: Eq + Hash + Drop, V: Copy>(map: &mut SmallMap<K, V>, key: K) -> Option<V>
-    ensures value { result ≡ value_at map.old.entries (match_of K.eq map.old.entries (own_hashed K.hash_input key)) }
+    ensures value { result ≡ get K.eq K.hash_input map.old key }
     ensures unchanged { map.new ≡ map.old }
 {
     match map.entry(key) {
@@ -35,6 +36,7 @@ pub fn look_up<K: Eq + Hash + Drop, V: Copy>(map: &mut SmallMap<K, V>, key: K) -
 
 /// Puts the value that a map has under this hash and key, by a closure that `Entry::and_modify` calls there. The entry
 /// is let go whole; where the map has none, it stays.
+#[tactic(auto, using(starlark_small::proofs::CallerLookup::look_ups))]
 pub fn change_if_there<K: Eq + Drop, V: Drop>(map: &mut SmallMap<K, V>, key: Hashed<K>, value: V)
     ensures { map.new ≡ with_value_under K.eq map.old key value }
 {
@@ -52,10 +54,10 @@ pub fn insert_if_lacking<K: Eq + Drop, V: Drop>(
     key: Hashed<K>,
     value: V,
 ) -> Result<bool, NoRoom<(Hashed<K>, V)>>
-    ensures lacking { IfOk result (λ new. IsTrue new ↔ (match_of K.eq map.old.entries key ≡ None)) }
-    ensures inserted { match_of K.eq map.old.entries key ≡ None → OnOk result (IsInserted map.old key value map.new) }
-    ensures unchanged { IsSome (match_of K.eq map.old.entries key) → map.new ≡ map.old }
-    ensures absent { OnErr result (match_of K.eq map.old.entries key ≡ None) }
+    ensures lacking { IfOk result (λ new. IsTrue new ↔ (found (K.eq (key_of key)) (hash_of key) map.old.entries ≡ None)) }
+    ensures inserted { found (K.eq (key_of key)) (hash_of key) map.old.entries ≡ None → OnOk result (IsInserted map.old map.new key value) }
+    ensures unchanged { IsSome (found (K.eq (key_of key)) (hash_of key) map.old.entries) → map.new ≡ map.old }
+    ensures absent { OnErr result (found (K.eq (key_of key)) (hash_of key) map.old.entries ≡ None) }
     ensures full { OnErr result (map.old.room ≡ 0) }
     ensures refused { OnErr result (IsRefused map.old map.new) }
     ensures handed_back { IfErr result (λ back. back.0 ≡ (key, value)) }
@@ -78,11 +80,11 @@ pub fn or_insert_then_put<K: Eq + Drop, V: Drop>(
     value: V,
     next: V,
 ) -> Result<V, (NoRoom<(Hashed<K>, V)>, V)>
-    ensures taken { IfOk result (λ was. IsSome (match_of K.eq map.old.entries key) → value_at map.old.entries (match_of K.eq map.old.entries key) ≡ Some was) }
-    ensures written { IsSome (match_of K.eq map.old.entries key) → map.new ≡ with_value_under K.eq map.old key next }
-    ensures begun { IfOk result (λ was. match_of K.eq map.old.entries key ≡ None → was ≡ value) }
-    ensures inserted { match_of K.eq map.old.entries key ≡ None → OnOk result (IsInserted map.old key next map.new) }
-    ensures absent { OnErr result (match_of K.eq map.old.entries key ≡ None) }
+    ensures taken { IfOk result (λ was. IsSome (found (K.eq (key_of key)) (hash_of key) map.old.entries) → found (K.eq (key_of key)) (hash_of key) map.old.entries ≡ Some was) }
+    ensures written { IsSome (found (K.eq (key_of key)) (hash_of key) map.old.entries) → map.new ≡ with_value_under K.eq map.old key next }
+    ensures begun { IfOk result (λ was. found (K.eq (key_of key)) (hash_of key) map.old.entries ≡ None → was ≡ value) }
+    ensures inserted { found (K.eq (key_of key)) (hash_of key) map.old.entries ≡ None → OnOk result (IsInserted map.old map.new key next) }
+    ensures absent { OnErr result (found (K.eq (key_of key)) (hash_of key) map.old.entries ≡ None) }
     ensures full { OnErr result (map.old.room ≡ 0) }
     ensures refused { OnErr result (IsRefused map.old map.new) }
     ensures handed_back { IfErr result (λ back. back.0.0 ≡ (key, value)) }

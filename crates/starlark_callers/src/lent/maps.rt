@@ -1,9 +1,11 @@
 //! Callers of the new entries that a `SmallMap` lends.
 ghost use Rattle.std.specs.Prelude.{◌≡◌, None, IfOk, IfErr, OnOk, OnErr};
 ghost use Rattle.std.specs.Borrow.{sem};
-ghost use Rattle.starlark_hash.specs.Entries.{match_of};
+ghost use Rattle.starlark_hash.specs.HashValue.{hash_of, key_of};
+ghost use Rattle.starlark_hash.specs.Lookup.{found};
 ghost use Rattle.starlark_small.specs.Insert.{IsInserted, IsRefused};
 ghost use Rattle.starlark_small.specs.Lend.{lends_new};
+ghost use Rattle.starlark_small.specs.Lookup.{get};
 ghost use Rattle.starlark_small.specs.Map.{own_hashed};
 
 use crate::lent::put::put;
@@ -18,7 +20,7 @@ pub fn lend_new_value<K: Eq, V>(
     key: Hashed<K>,
     value: V,
 ) -> Result<&mut V, NoRoom<(Hashed<K>, V)>>
-    requires { match_of K.eq map.old.entries key ≡ None }
+    requires { found (K.eq (key_of key)) (hash_of key) map.old.entries ≡ None }
     ensures* writes_back { sem 𝓛 (lends_new K.row V.row K.PartialEq map.entry key result) }
     ensures value { IfOk result (λ lent. lent.now ≡ value) }
     ensures full { OnErr result (map.old.room ≡ 0) }
@@ -37,7 +39,7 @@ pub fn lend_own_new_value<K: Eq + Hash, V>(
     key: K,
     value: V,
 ) -> Result<&mut V, NoRoom<(K, V)>>
-    requires { match_of K.eq map.old.entries (own_hashed K.hash_input key) ≡ None }
+    requires { get K.eq K.hash_input map.old key ≡ None }
     ensures* writes_back { sem 𝓛 (lends_new K.row V.row K.PartialEq map.entry (own_hashed K.hash_input key) result) }
     ensures value { IfOk result (λ lent. lent.now ≡ value) }
     ensures full { OnErr result (map.old.room ≡ 0) }
@@ -57,9 +59,9 @@ pub fn insert_then_put<K: Eq, V>(
     value: V,
     next: V,
 ) -> Result<V, (NoRoom<(Hashed<K>, V)>, V)>
-    requires { match_of K.eq map.old.entries key ≡ None }
+    requires { found (K.eq (key_of key)) (hash_of key) map.old.entries ≡ None }
     ensures taken { IfOk result (λ was. was ≡ value) }
-    ensures inserted { OnOk result (IsInserted map.old key next map.new) }
+    ensures inserted { OnOk result (IsInserted map.old map.new key next) }
     ensures full { OnErr result (map.old.room ≡ 0) }
     ensures refused { OnErr result (IsRefused map.old map.new) }
     ensures handed_back { IfErr result (λ back. back.0.0 ≡ (key, value)) }
@@ -79,9 +81,9 @@ pub fn insert_own_then_put<K: Eq + Hash, V>(
     value: V,
     next: V,
 ) -> Result<V, (NoRoom<(K, V)>, V)>
-    requires { match_of K.eq map.old.entries (own_hashed K.hash_input key) ≡ None }
+    requires { get K.eq K.hash_input map.old key ≡ None }
     ensures taken { IfOk result (λ was. was ≡ value) }
-    ensures inserted { OnOk result (IsInserted map.old (own_hashed K.hash_input key) next map.new) }
+    ensures inserted { OnOk result (IsInserted map.old map.new (own_hashed K.hash_input key) next) }
     ensures full { OnErr result (map.old.room ≡ 0) }
     ensures refused { OnErr result (IsRefused map.old map.new) }
     ensures handed_back { IfErr result (λ back. back.0.0 ≡ (key, value)) }

@@ -3,10 +3,6 @@ ghost use Rattle.std.specs.Hash as fed;
 ghost use Rattle.std.specs.Prelude.{◌≡◌, ℕ, ◌+◌, ◌-◌, ◌^◌, min, nat_eq, false, Some, None, IfErr, IfOk, IsSome, OnErr, OnOk};
 ghost use Rattle.std.specs.Borrow.{sem};
 ghost use Rattle.std.specs.Option.{unwrap_or};
-ghost use Rattle.std.specs.String.{string_bytes, string_eq};
-ghost use Rattle.std.specs.declared.alloc.Global.{Global};
-ghost use Rattle.std.specs.declared.string.String.{String};
-ghost use Rattle.starlark_hash.specs.Entries.{match_of};
 ghost use Rattle.starlark_hash.specs.Insert.{insert_entry};
 ghost use Rattle.starlark_small.specs.Lookup.{get};
 ghost use Rattle.starlark_small.specs.Insert.{IsInserted, IsRefused};
@@ -31,7 +27,7 @@ pub fn lend_at<K: Eq + Hash + Drop, V: Drop>(
 ) -> Result<&mut V, NoRoom<(Hashed<K>, V)>>
     ensures* writes_back { sem 𝓛 (lends_at K.row V.row K.PartialEq map.entry (own_hashed K.hash_input key) result) }
     ensures shown { IfOk result (λ lent. lent.now ≡ unwrap_or (get K.eq K.hash_input map.old key) value) }
-    ensures absent { OnErr result (match_of K.eq map.old.entries (own_hashed K.hash_input key) ≡ None) }
+    ensures absent { OnErr result (get K.eq K.hash_input map.old key ≡ None) }
     ensures full { OnErr result (map.old.room ≡ 0) }
     ensures handed_back { IfErr result (λ back. back.0 ≡ (own_hashed K.hash_input key, value)) }
 {
@@ -48,12 +44,12 @@ pub fn or_insert_then_put_in_order<K: Eq + Hash + Drop, V: Drop>(
     next: V,
 ) -> Result<V, (NoRoom<(Hashed<K>, V)>, V)>
     ensures taken { IfOk result (λ was. was ≡ unwrap_or (get K.eq K.hash_input map.old key) value) }
-    ensures written { IsSome (match_of K.eq map.old.entries (own_hashed K.hash_input key)) → map.new ≡ with_value_under K.eq map.old (own_hashed K.hash_input key) next }
-    ensures inserted { match_of K.eq map.old.entries (own_hashed K.hash_input key) ≡ None → OnOk result (IsInserted map.old (own_hashed K.hash_input key) next map.new) }
+    ensures written { IsSome (get K.eq K.hash_input map.old key) → map.new ≡ with_value_under K.eq map.old (own_hashed K.hash_input key) next }
+    ensures inserted { get K.eq K.hash_input map.old key ≡ None → OnOk result (IsInserted map.old map.new (own_hashed K.hash_input key) next) }
     ensures here { OnOk result (get K.eq K.hash_input map.new key ≡ Some next) }
     ensures others { OnOk result ((other : K) → K.eq key other ≡ false → get K.eq K.hash_input map.new other ≡ get K.eq K.hash_input map.old other) }
     ensures entries { OnOk result (map.new.entries ≡ insert_entry K.eq map.old.entries (own_hashed K.hash_input key) next) }
-    ensures absent { OnErr result (match_of K.eq map.old.entries (own_hashed K.hash_input key) ≡ None) }
+    ensures absent { OnErr result (get K.eq K.hash_input map.old key ≡ None) }
     ensures full { OnErr result (map.old.room ≡ 0) }
     ensures refused { OnErr result (IsRefused map.old map.new) }
     ensures handed_back { IfErr result (λ back. back.0.0 ≡ (own_hashed K.hash_input key, value)) }
@@ -73,28 +69,11 @@ pub fn count_in_order(
     ensures here { OnOk result (get nat_eq fed.u32 map.new number ≡ Some (min (unwrap_or (get nat_eq fed.u32 map.old number) 0 + 1) (2 ^ 64 - 1))) }
     ensures others { OnOk result ((other : ℕ) → nat_eq number other ≡ false → get nat_eq fed.u32 map.new other ≡ get nat_eq fed.u32 map.old other) }
     ensures entries { OnOk result (map.new.entries ≡ insert_entry nat_eq map.old.entries (own_hashed fed.u32 number) (min (unwrap_or (get nat_eq fed.u32 map.old number) 0 + 1) (2 ^ 64 - 1))) }
-    ensures absent { OnErr result (match_of nat_eq map.old.entries (own_hashed fed.u32 number) ≡ None) }
+    ensures absent { OnErr result (get nat_eq fed.u32 map.old number ≡ None) }
     ensures full { OnErr result (map.old.room ≡ 0) }
     ensures refused { OnErr result (IsRefused map.old map.new) }
 {
     let count = lend_at(map, number, 0)?;
-    *count = count.saturating_add(1);
-    Ok(())
-}
-
-/// Counts a word in an ordered map, up to the greatest count. A word that is new counts 1.
-pub fn count_word_in_order(
-    map: &mut OrderedMap<String, u64>,
-    word: String,
-) -> Result<(), NoRoom<(Hashed<String>, u64)>>
-    ensures here { OnOk result (get string_eq (λ s. fed.str (string_bytes s)) map.new word ≡ Some (min (unwrap_or (get string_eq (λ s. fed.str (string_bytes s)) map.old word) 0 + 1) (2 ^ 64 - 1))) }
-    ensures others { OnOk result ((other : String Global) → string_eq word other ≡ false → get string_eq (λ s. fed.str (string_bytes s)) map.new other ≡ get string_eq (λ s. fed.str (string_bytes s)) map.old other) }
-    ensures entries { OnOk result (map.new.entries ≡ insert_entry string_eq map.old.entries (own_hashed (λ s. fed.str (string_bytes s)) word) (min (unwrap_or (get string_eq (λ s. fed.str (string_bytes s)) map.old word) 0 + 1) (2 ^ 64 - 1))) }
-    ensures absent { OnErr result (match_of string_eq map.old.entries (own_hashed (λ s. fed.str (string_bytes s)) word) ≡ None) }
-    ensures full { OnErr result (map.old.room ≡ 0) }
-    ensures refused { OnErr result (IsRefused map.old map.new) }
-{
-    let count = lend_at(map, word, 0)?;
     *count = count.saturating_add(1);
     Ok(())
 }

@@ -1,6 +1,5 @@
 //! Callers of the entries of unordered maps and sets, which they let go or fill.
 ghost use Rattle.std.specs.Hash as fed;
-ghost use Rattle.std.specs.Map.{lookup};
 ghost use Rattle.std.specs.Option.{IfNone};
 ghost use Rattle.std.specs.Prelude.{◌≡◌, nat_eq, not, is_some, false, None, Some, IfErr, IfOk, IfSome, OnErr};
 ghost use Rattle.std.specs.Str.{bytes_eq};
@@ -9,7 +8,7 @@ ghost use Rattle.std.specs.declared.alloc.Global.{Global};
 ghost use Rattle.std.specs.declared.string.String.{String};
 ghost use Rattle.starlark_hash.specs.HashValue.{hash_of, key_of};
 ghost use Rattle.starlark_hash.specs.Hasher.{own_hash};
-ghost use Rattle.starlark_unordered.specs.Lookup.{get, get_text};
+ghost use Rattle.starlark_unordered.specs.Lookup.{contains, found, get, get_text};
 ghost use Rattle.starlark_unordered.specs.Pairs.{pairs_of, under_own, IsSlotOf};
 ghost use Rattle.starlark_unordered.specs.RawEntry.{map_of_raw, slot_of_raw, IsRawEntryAt};
 
@@ -20,7 +19,7 @@ use std::hash::Hash;
 
 /// Whether an unordered map has this key. The entry is let go, or gives the key back, and the map stays.
 pub fn has_key<K: Eq + Hash + Drop, V>(map: &mut UnorderedMap<K, V>, key: K) -> bool
-    ensures has { result ≡ is_some (lookup (K.eq key) (pairs_of map.old)) }
+    ensures has { result ≡ contains K.eq map.old key }
     ensures unchanged { map.new ≡ map.old }
 {
     match map.entry(key) {
@@ -34,7 +33,7 @@ pub fn has_key<K: Eq + Hash + Drop, V>(map: &mut UnorderedMap<K, V>, key: K) -> 
 
 /// Whether an unordered map has this number. The entries are let go in both arms, and the map stays.
 pub fn has_number(map: &mut UnorderedMap<u32, u64>, key: u32) -> bool
-    ensures has { result ≡ is_some (lookup (nat_eq key) (pairs_of map.old)) }
+    ensures has { result ≡ contains nat_eq map.old key }
     ensures unchanged { map.new ≡ map.old }
 {
     match map.entry(key) {
@@ -49,24 +48,9 @@ pub fn add_raw<T: Eq + Hash + Drop>(
     set: &mut UnorderedSet<T>,
     element: T,
 ) -> Result<bool, NoRoom<T>>
-    ensures lacking { IfOk result (λ new. new ≡ not (is_some (lookup (T.eq element) (pairs_of set.old)))) }
+    ensures lacking { IfOk result (λ new. new ≡ not (contains T.eq set.old element)) }
     ensures handed_back { IfErr result (λ refused. refused.0 ≡ element) }
-    ensures absent { OnErr result (lookup (T.eq element) (pairs_of set.old) ≡ None) }
-{
-    match set.raw_entry_mut().from_entry(&element) {
-        RawEntryMut::Occupied(_there) => Ok(false),
-        RawEntryMut::Vacant(entry) => match entry.insert(element) {
-            Ok(()) => Ok(true),
-            Err(refused) => Err(refused),
-        },
-    }
-}
-
-/// Puts a number into an unordered set by a raw entry, and says whether it was lacking. Where it is refused, it comes back.
-pub fn add_raw_number(set: &mut UnorderedSet<u32>, element: u32) -> Result<bool, NoRoom<u32>>
-    ensures lacking { IfOk result (λ new. new ≡ not (is_some (lookup (nat_eq element) (pairs_of set.old)))) }
-    ensures handed_back { IfErr result (λ refused. refused.0 ≡ element) }
-    ensures absent { OnErr result (lookup (nat_eq element) (pairs_of set.old) ≡ None) }
+    ensures absent { OnErr result (get T.eq set.old element ≡ None) }
 {
     match set.raw_entry_mut().from_entry(&element) {
         RawEntryMut::Occupied(_there) => Ok(false),
@@ -79,7 +63,7 @@ pub fn add_raw_number(set: &mut UnorderedSet<u32>, element: u32) -> Result<bool,
 
 /// Whether an unordered set has an element, by its hash and a raw entry.
 pub fn has_raw<T: Eq + Hash + Drop>(set: &mut UnorderedSet<T>, element: T) -> bool
-    ensures { result ≡ is_some (lookup (under_own T.hash_input (own_hash T.hash_input element) (T.eq element)) (pairs_of set.old)) }
+    ensures { result ≡ is_some (found (under_own T.hash_input (own_hash T.hash_input element) (T.eq element)) (pairs_of set.old)) }
 {
     let hashed = Hashed::new(element);
     match set.raw_entry_mut().from_entry_hashed(hashed.as_ref()) {
@@ -90,7 +74,7 @@ pub fn has_raw<T: Eq + Hash + Drop>(set: &mut UnorderedSet<T>, element: T) -> bo
 
 /// Puts the value of a key that an unordered map has, through a raw entry, and answers the one that was there.
 pub fn put_raw<K: Eq + Hash, V: Drop>(map: &mut UnorderedMap<K, V>, key: &K, value: V) -> Option<V>
-    ensures was { result ≡ lookup (K.eq key.now) (pairs_of map.old) }
+    ensures was { result ≡ get K.eq map.old key.now }
     ensures here { IfSome result (λ _. get K.eq map.new key.now ≡ Some value) }
     ensures others { (other : K) → K.eq key.now other ≡ false → get K.eq map.new other ≡ get K.eq map.old other }
     ensures lacks { IfNone result (map.new ≡ map.old) }
@@ -103,7 +87,7 @@ pub fn put_raw<K: Eq + Hash, V: Drop>(map: &mut UnorderedMap<K, V>, key: &K, val
 
 /// Puts the number of a string that an unordered map has, by its text and a raw entry, and answers the one that was there.
 pub fn put_raw_named(map: &mut UnorderedMap<String, u64>, name: &str, value: u64) -> Option<u64>
-    ensures was { result ≡ lookup (λ k. bytes_eq name.now (string_bytes k)) (pairs_of map.old) }
+    ensures was { result ≡ get_text map.old name.now }
     ensures here { IfSome result (λ _. get_text map.new name.now ≡ Some value) }
     ensures others { (other : String Global) → bytes_eq name.now (string_bytes other) ≡ false → get string_eq map.new other ≡ get string_eq map.old other }
     ensures lacks { IfNone result (map.new ≡ map.old) }
@@ -116,7 +100,7 @@ pub fn put_raw_named(map: &mut UnorderedMap<String, u64>, name: &str, value: u64
 
 /// The number of a number, by its hash and a raw entry.
 pub fn look_up_raw(map: &mut UnorderedMap<u32, u64>, key: u32) -> Option<u64>
-    ensures value { result ≡ lookup (under_own fed.u32 (own_hash fed.u32 key) (nat_eq key)) (pairs_of map.old) }
+    ensures value { result ≡ found (under_own fed.u32 (own_hash fed.u32 key) (nat_eq key)) (pairs_of map.old) }
     ensures unchanged { map.new ≡ map.old }
 {
     let hashed = Hashed::new(key);

@@ -1,7 +1,7 @@
 //! Callers that make unordered maps and sets, or others of them.
 ghost use Rattle.std.specs.Map.{update_all};
 ghost use Rattle.std.specs.Option.{option_map};
-ghost use Rattle.std.specs.Prelude.{◌*◌, ◌≡◌, ◌≤◌, IfErr, IfOk, IsPermutation, None, filter, length, nat_eq, nat_lt, ℕ};
+ghost use Rattle.std.specs.Prelude.{◌*◌, ◌/◌, ◌≡◌, ◌≤◌, IfErr, IfOk, IsPermutation, None, filter, length, nat_eq, nat_lt, ℕ};
 ghost use Rattle.std.specs.Set.{is_member};
 ghost use Rattle.starlark_table.specs.Growth.{most_for};
 ghost use Rattle.starlark_unordered.specs.Lookup.{contains, get};
@@ -50,6 +50,17 @@ pub fn keep_above<K: Eq + Hash + Drop>(map: &mut UnorderedMap<K, u64>, least: u6
     ensures { IsPermutation (filter (λ p. nat_lt least p.1) (pairs_of map.old)) (pairs_of map.new) }
 {
     map.retain(|_key, value| *value > least);
+}
+
+/// Halves every value.
+pub fn halve<K: Eq + Hash + Drop>(map: &mut UnorderedMap<K, u64>)
+    ensures each { (key : K) → get K.eq map.new key ≡ option_map (λ n. n / 2) (get K.eq map.old key) }
+    ensures fewer { length (pairs_of map.new) ≤ length (pairs_of map.old) }
+{
+    map.retain(|_key, value| {
+        *value /= 2;
+        true
+    });
 }
 
 /// The map with each value doubled; refused, it comes back.

@@ -1,7 +1,7 @@
 //! Callers that look up in unordered maps and sets, walk them, or compare.
 ghost use Rattle.std.specs.Map.{values_of};
 ghost use Rattle.std.specs.Option.{unwrap_or};
-ghost use Rattle.std.specs.Prelude.{◌<◌, ◌^◌, ◌↔◌, ◌≡◌, ◌≤◌, IfNone, IfOk, IfSome, IsNone, IsPermutation, IsSortedByKey, IsTrue, None, Some, is_some, map, sum, true};
+ghost use Rattle.std.specs.Prelude.{◌<◌, ◌^◌, ◌↔◌, ◌≡◌, ◌≤◌, All, IfNone, IfOk, IfSome, IsNone, IsPermutation, IsSortedByKey, IsTrue, None, Some, is_some, map, sum, true};
 ghost use Rattle.starlark_hash.specs.HashValue.{hash_of, key_of};
 ghost use Rattle.starlark_hash.specs.Hasher.{own_hash};
 ghost use Rattle.starlark_unordered.specs.Bag.{same_bag};
@@ -22,6 +22,14 @@ pub fn lookup_or<K: Eq + Hash>(map: &UnorderedMap<K, u64>, key: &K, default: u64
         Some(value) => *value,
         None => default,
     }
+}
+
+/// A value of a map whose values are at most 100, or 0.
+pub fn score_of<K: Eq + Hash>(scores: &UnorderedMap<K, u64>, key: &K) -> u64
+    requires { All (λ score. score ≤ 100) (values_of (pairs_of scores.now)) }
+    ensures { result ≤ 100 }
+{
+    scores.get(key).copied().unwrap_or(0)
 }
 
 /// The value of a key that is there.

@@ -10,4 +10,4 @@ returns-in-Ok-clause-inserted g c = λ none.
     let entry = c.in-Vacant.ensures.enters.entry in
     let last = c.insert.follows.lender slot.now in
     inserted_as c.args.map.now lacking.map.now _ c.args.key lacking.key c.args.value slot.now entry.0 entry.2 c.in-Ok.ensures.value
-    (subst (IsInserted lacking.map.now lacking.key slot.now) {x = last} (search rules) (subst (λ r. OnOk r (IsInserted lacking.map.now lacking.key slot.now last)) c.in-Ok.is (c.insert.follows.holds slot.now).0))
+    (subst (λ n. IsInserted lacking.map.now n lacking.key slot.now) {x = last} (search rules) (subst (λ r. OnOk r (IsInserted lacking.map.now last lacking.key slot.now)) c.in-Ok.is (c.insert.follows.holds slot.now).0))

@@ -6,5 +6,6 @@ use Rattle.starlark_callers.proofs.lent.maps.insert_own_then_put.Goals as goal
 pub returns-in-Ok-clause-inserted : goal.returns-in-Ok-clause-inserted
 returns-in-Ok-clause-inserted g c =
     let lent = c.lend_own_new_value in
-    let Inserted = IsInserted c.args.map.now (own_hashed g.K.Hash.hash_input c.args.key) c.args.next in
-    subst Inserted {x = lent.follows.lender c.args.next} (search rules) (subst (λ r. OnOk r (Inserted (lent.follows.lender c.args.next))) c.in-Ok.is (lent.follows.holds c.args.next))
+    let next = c.args.next in
+    let last = lent.follows.lender next in
+    subst (λ n. IsInserted c.args.map.now n (own_hashed g.K.Hash.hash_input c.args.key) next) {x = last} (search rules) (subst (λ r. OnOk r (IsInserted c.args.map.now last (own_hashed g.K.Hash.hash_input c.args.key) next)) c.in-Ok.is (lent.follows.holds next))

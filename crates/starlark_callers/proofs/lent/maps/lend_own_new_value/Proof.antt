@@ -6,7 +6,8 @@ use Rattle.std.specs.declared.hash.Hash as Hash
 use Rattle.starlark_callers.proofs.Walks.{◌≡◌, refl, sym, subst, inl, inr, List, [], ◌∷◌, suc-ne-zero, lit<, Ura, Fn, Args, Dict, a_type, dcons, dnil, named, inst_fn, Val, vptr, vcons, vnil, of_list, SProp, ent, emp, id⊢, ex_e, snd∗, Lft, Share, ftrue, flft, Memory, Routine, Env, Calls, Loops, WpFn, Logic, sem, live, vrt, in_variant, by_variants, ◌⊑◌, Fun, fact, fact_i, tables, FmC, ‵, raw, ◌⊛◌, some, given, later, at_ret, ◌$◌, ◌∵◌, !, qed, move, keep, use0, use1, split, split3, join, pick, learn, fsplit, fsplit3, fjoin, suffices, frame, await, rewrite, group, done, whole, sub, agg, stop, fld, hop, from, addr, lit, of_opd, and_then, no_more, begins, exec, returns, enter, alloc_all, pass_all, free_all, look_at, look_in_at, get, get_in, get_tag, through, sets, sets_last, lands_as, env, no, RattleType, owns, param, bounded, layout, Laws, param_laws, Bor, MutBor, MutRef, ShrRef, mut_vals, mut_Tells, plain, types_at, mut_ref_to, nothing, heard, Tuple, tuple_laws, calls_at, Clauses, Ended, ensured, lasts, triple_of, Contract, Triple, framed, Stays, stay_dropped, walk_of, ends_at, Goes-spent_ref, Goes-blank, Good, Ok-of, Err-of, and_tt, after, proved_at, None, Result, Ok, Err, IfOk, IfErr, OnErr, Hashed, NoRoom, lone_value, in_err, entry_val, which}
 use Rattle.starlark_hash.proofs.no_room.NoRoom.TheLaws as room_laws
 use Rattle.starlark_hash.specs.contracts.no_room.NoRoom as N
-use Rattle.starlark_hash.specs.Entries.{match_of}
+use Rattle.starlark_hash.specs.HashValue.{hash_of, key_of}
+use Rattle.starlark_hash.specs.Lookup.{found}
 use Rattle.starlark_small.specs.Map.{Map, own_hashed}
 use Rattle.starlark_small.specs.Lend.{lends_inserted}
 use Rattle.starlark_small.specs.contracts.small_map.SmallMap as S
@@ -76,8 +77,8 @@ module _ (K V : RattleType) (E : Eq.Ghosts K.Denot) (dE : Dict) (P : PartialEq.G
       walk =
           let m = r.now in let Ref = MutRef (named 0) κ V' in let under : Hashed K.Denot = own_hashed X.hash_input key in
           qed 𝓛 (((‵ (flft κ q) ⊛ ‵ (flft κK qK) ⊛ ‵ (flft κV qV) ⊛ ‵ ftrue) ⊛ ‵ (owns (types_at ended.signature.params bound.0.0) bound.0.3 bound.0.4))
-          ∷ (raw (fact 𝓤 (κK ⊑ K.lives)) ⊛ raw (fact 𝓤 (κV ⊑ V.lives)) ⊛ raw (fact 𝓤 (match_of P.eq m.entries under ≡ None))) ∷ []) ∵
-          move ! (1 ∷ []) $ split3 ! $ heard ! (κK ⊑ K.lives) (λ lK. heard ! (κV ⊑ V.lives) (λ lV. heard ! (match_of P.eq m.entries under ≡ None) (λ absent.
+          ∷ (raw (fact 𝓤 (κK ⊑ K.lives)) ⊛ raw (fact 𝓤 (κV ⊑ V.lives)) ⊛ raw (fact 𝓤 (found (P.eq (key_of under)) (hash_of under) m.entries ≡ None))) ∷ []) ∵
+          move ! (1 ∷ []) $ split3 ! $ heard ! (κK ⊑ K.lives) (λ lK. heard ! (κV ⊑ V.lives) (λ lV. heard ! (found (P.eq (key_of under)) (hash_of under) m.entries ≡ None) (λ absent.
           split ! $ move ! (1 ∷ []) $ fsplit3 ! $ move ! (2 ∷ []) $ fsplit ! $ keep ! (4 ∷ 2 ∷ 3 ∷ 0 ∷ []) $
           -- [the tokens; the map; the key; the value]
           enter ! C Λ here (vptr r.ref_ptr.0 r.ref_ptr.1 ∷ k ∷ v ∷ []) _ $ alloc_all ! (λ l. let En : Env 𝓤 𝓛.H = env (here).locals l in
@@ -85,7 +86,7 @@ module _ (K V : RattleType) (E : Eq.Ghosts K.Denot) (dE : Dict) (P : PartialEq.G
           sets ! (addr ! (through ! refl (stop !))) refl (tt, tt) $ sets ! (of_opd ! (get ! refl)) refl k_good $ sets ! (of_opd ! (get ! refl)) refl v_good $
           let z : Inserts.Ghost = bound in
           nothing ! $ move ! (4 ∷ 0 ∷ []) $ fjoin ! $ move ! (3 ∷ 0 ∷ []) $ fjoin ! $ move ! (2 ∷ 0 ∷ []) $ fjoin ! $ move ! (1 ∷ 0 ∷ []) $ join ! $
-          use0 𝓛 (raw (fact 𝓤 (match_of P.eq m.entries under ≡ None))) (fact_i 𝓤 _ (emp 𝓤) absent) $ use0 𝓛 (raw (fact 𝓤 (κV ⊑ V.lives))) (fact_i 𝓤 _ (emp 𝓤) lV) $ use0 𝓛 (raw (fact 𝓤 (κK ⊑ K.lives))) (fact_i 𝓤 _ (emp 𝓤) lK) $
+          use0 𝓛 (raw (fact 𝓤 (found (P.eq (key_of under)) (hash_of under) m.entries ≡ None))) (fact_i 𝓤 _ (emp 𝓤) absent) $ use0 𝓛 (raw (fact 𝓤 (κV ⊑ V.lives))) (fact_i 𝓤 _ (emp 𝓤) lV) $ use0 𝓛 (raw (fact 𝓤 (κK ⊑ K.lives))) (fact_i 𝓤 _ (emp 𝓤) lK) $
           group ! 3 $ move ! (1 ∷ 0 ∷ []) $ join ! $ use1 𝓛 (raw (Inserts.pre z)) (id⊢ 𝓤 _) $
           calls_at ! fm Inserts inserts z (and_then ! (get ! refl) (and_then ! (get ! refl) (and_then ! (get ! refl) (no_more !)))) (λ u.
           use1 𝓛 (later (some (λ (h : Got). ((‵ (flft κ q) ⊛ ‵ (flft κK qK) ⊛ ‵ (flft κV qV) ⊛ ‵ ftrue) ⊛ ‵ ((RS.the_row (Pair κ) Back).own_val h (u ∷ [])))

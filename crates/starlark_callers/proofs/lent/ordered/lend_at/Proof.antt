@@ -10,7 +10,8 @@ use Rattle.starlark_hash.proofs.hashed.Hashed.TheLaws as hashed_laws
 use Rattle.starlark_hash.proofs.no_room.NoRoom.TheLaws as room_laws
 use Rattle.starlark_hash.specs.contracts.hashed.Hashed as H
 use Rattle.starlark_hash.specs.contracts.no_room.NoRoom as N
-use Rattle.starlark_hash.specs.Entries.{match_of}
+use Rattle.starlark_hash.specs.HashValue.{hash_of, key_of}
+use Rattle.starlark_hash.specs.Lookup.{found}
 use Rattle.starlark_small.proofs.entry.Entry.TheLaws as entry_laws
 use Rattle.starlark_small.proofs.entry.Entry.or_insert.Symbol.{name as #puts}
 use Rattle.starlark_small.proofs.entry.Entry.or_insert.Met as puts
@@ -124,8 +125,8 @@ module _ (K V : RattleType) (E : Eq.Ghosts K.Denot) (dE : Dict) (Q : PartialEq.G
           calls_at ! fm Enters gives z (and_then ! (get ! refl) (and_then ! (get ! refl) (no_more !))) (λ t.
           use1 𝓛 (later (some (λ (y : Entry K.Denot V.Denot Q). ((‵ (flft κ q) ⊛ ‵ (flft κK qK) ⊛ ‵ (flft κV qV) ⊛ ‵ ftrue) ⊛ ‵ (Held.own_val y (t ∷ [])))
           ⊛ raw (ensured 𝓛 (e.ended K V E dE Q dQ G dG dD) (e.clauses K V E dE Q dQ G dG dD 𝓛 at_mem run) z.0.0 z.0.3 tt y)))) (id⊢ 𝓤 _) $ await ! tt $ pick ! (λ y. split ! $ move ! (1 ∷ []) $
-          use1 𝓛 (‵ (follows_entry K' V' Q r y) ⊛ raw (fact 𝓤 (IsEntered Q.eq under m y))) (ex_e 𝓤 _ (λ ws. snd∗ 𝓤 (sem 𝓛 (lasts (e.ended K V E dE Q dQ G dG dD) z.0.0 z.0.3 ws)) _)) $ split ! $
-          move ! (1 ∷ []) $ heard ! (IsEntered Q.eq under m y) (λ is. move ! (1 ∷ []) $ split ! $ move ! (1 ∷ []) $
+          use1 𝓛 (‵ (follows_entry K' V' Q r y) ⊛ raw (fact 𝓤 (IsEntered Q.eq m under y))) (ex_e 𝓤 _ (λ ws. snd∗ 𝓤 (sem 𝓛 (lasts (e.ended K V E dE Q dQ G dG dD) z.0.0 z.0.3 ws)) _)) $ split ! $
+          move ! (1 ∷ []) $ heard ! (IsEntered Q.eq m under y) (λ is. move ! (1 ∷ []) $ split ! $ move ! (1 ∷ []) $
           -- [the entry; the tokens; what the ordered map follows; the value]
           peeks ! Held (Is Held) (shows 𝓛 Held) y (t ∷ []) (λ is_t.
           lands_as ! refl refl (good_value 𝓛 Held (entry_laws.the_row_laws (named_lft 3 0 tt (κ, (κK, (κV, tt)))) K' V' Q (param_laws 0 K LK) (param_laws 1 V LV)) y t is_t) $
@@ -143,7 +144,7 @@ module _ (K V : RattleType) (E : Eq.Ghosts K.Denot) (dE : Dict) (Q : PartialEq.G
           -- [what the map inside follows; the tokens with what is lent; what the ordered map follows]
           move ! (2 ∷ 0 ∷ []) $ use2 𝓛 (‵ (lends_at K' V' Q r under h))
           (so_then 𝓛 Outer Inner V' (λ n. n) γ (map_of_entry y).ghost_name (name_if_ok (λ x. x.ghost_name) h)
-          (λ w n. OnOk h (IsPut y w n) × (IsOk h → HasPut y w n)) (λ w n. IsOk h → IsPutUnder Q.eq m under w n) (λ n. OnErr h (IsRefused (map_of_entry y).now n) × (IsErr h → Refuses y n)) (λ n. OnErr h (IsRefused m n))
+          (λ w n. OnOk h (IsPut y w n) × (IsOk h → HasPut y w n)) (λ w n. IsOk h → IsPutUnder Q.eq m n under w) (λ n. OnErr h (IsRefused (map_of_entry y).now n) × (IsErr h → Refuses y n)) (λ n. OnErr h (IsRefused m n))
           (λ w n. put_at Q.eq m under y is h w n) (λ n. refused_at Q.eq m under y is.entry h n)) $
           move ! (1 ∷ []) $ split ! $ move ! (1 ∷ []) $
           -- [what is lent; the tokens; what the ordered map follows]
@@ -154,7 +155,7 @@ module _ (K V : RattleType) (E : Eq.Ghosts K.Denot) (dE : Dict) (Q : PartialEq.G
           nothing ! $ nothing ! $ fjoin ! $ nothing ! $ fjoin ! $ nothing ! $ fjoin ! $ join ! $ move ! (1 ∷ 0 ∷ []) $ join ! $ frame ! $
           use0 𝓛 (raw (fact 𝓤 (IfErr h (λ x. x.0 ≡ (under, value))))) (fact_i 𝓤 _ (emp 𝓤) (handed_back_at Q.eq m under value y is.entry h may_give)) $
           use0 𝓛 (raw (fact 𝓤 (OnErr h (m.room ≡ 0)))) (fact_i 𝓤 _ (emp 𝓤) (subst (λ (n : Map K.Denot V.Denot). OnErr h (n.room ≡ 0)) (held Q.eq m under y is.entry) full)) $
-          use0 𝓛 (raw (fact 𝓤 (OnErr h (match_of Q.eq m.entries under ≡ None)))) (fact_i 𝓤 _ (emp 𝓤) (absent_at Q.eq m under value y is.entry h may_give)) $
+          use0 𝓛 (raw (fact 𝓤 (OnErr h (found (Q.eq (key_of under)) (hash_of under) m.entries ≡ None)))) (fact_i 𝓤 _ (emp 𝓤) (absent_at Q.eq m under value y is.entry h may_give)) $
           use0 𝓛 (raw (fact 𝓤 (IfOk h (λ x. x.now ≡ unwrap_or (found_in Q.eq G.hash_input m key) value)))) (fact_i 𝓤 _ (emp 𝓤) (subst (λ o. IfOk h (λ x. x.now ≡ unwrap_or o value)) is.value shown)) $
           move ! (4 ∷ []) $ done !)))))))))))))
 
