@@ -4,6 +4,8 @@
 #[cfg(test)]
 mod adaptors;
 #[cfg(test)]
+mod debug;
+#[cfg(test)]
 mod given;
 #[cfg(test)]
 mod hashes;
@@ -13,6 +15,8 @@ mod other_calls;
 mod rooms;
 #[cfg(test)]
 mod small_maps;
+#[cfg(test)]
+mod tables;
 #[cfg(test)]
 mod walks_of_maps;
 #[cfg(test)]

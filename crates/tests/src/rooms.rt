@@ -9,6 +9,7 @@ use starlark_map::sorted_map::SortedMap;
 use starlark_map::sorted_set::SortedSet;
 use starlark_map::unordered_map::UnorderedMap;
 use starlark_map::unordered_set::UnorderedSet;
+use starlark_map::vec2::Vec2;
 use std::alloc::{AllocError, Global};
 use std::process::Abort;
 use std::test::Fail;
@@ -31,7 +32,57 @@ fn set_capacity<E: Drop>(made: Result<SmallSet<u32>, E>) -> Option<usize> {
     made.ok().map(|set| set.capacity())
 }
 
+// The capacities of a list of pairs that is new, and after one push and after five.
+fn growing(alloc: Global) -> Result<[usize; 3], Fail> {
+    let mut list = Vec2::new(alloc);
+    let none = list.capacity();
+    list.push(0u32, 0u32)?;
+    let one = list.capacity();
+    for item in 1..5u32 {
+        list.push(item, item)?;
+    }
+    Ok([none, one, list.capacity()])
+}
+
+// Case: a list of pairs grows to four, and then to twice its capacity
+#[test]
+fn grows_lists_of_pairs(rt: HostRuntime) -> Result<(), Fail> {
+    same(&rt, growing(rt.alloc())?, [0, 4, 8]);
+    Ok(())
+}
+
+// The capacity and the room of a map of this many entries that lost the last one and dropped its index.
+fn slimmed(alloc: Global, count: u32) -> Result<(usize, usize, usize), Fail> {
+    let mut map = SmallMap::new(alloc);
+    for key in 0..count {
+        map.insert(key, key)?;
+    }
+    let _ = map.pop();
+    map.maybe_drop_index();
+    Ok((map.len(), map.capacity(), map.room()))
+}
+
+// Case: no room is left once the index was dropped at the threshold
+#[test]
+fn has_no_room_without_its_index(rt: HostRuntime) -> Result<(), Fail> {
+    same(&rt, slimmed(rt.alloc(), 17)?, (16, 32, 0));
+    Ok(())
+}
+
+// Case: `clear` leaves the capacity of a map
+#[test]
+fn keeps_its_capacity_when_cleared(rt: HostRuntime) -> Result<(), Fail> {
+    let mut map: SmallMap<u32, u32> = SmallMap::with_capacity(rt.alloc(), 40)?;
+    for key in 0..3u32 {
+        map.insert(key, key)?;
+    }
+    map.clear();
+    same(&rt, (map.len(), map.capacity()), (0, 40));
+    Ok(())
+}
+
 // Growing step by step would leave room for 8 and for 64.
+// Case: `from_iter` begins with room for what its iterator promises
 #[test]
 fn begins_with_room_for_the_items(rt: HostRuntime) {
     for n in [5, 40] {
@@ -47,6 +98,7 @@ fn unordered_rooms(alloc: Global, n: u32) -> Result<(usize, usize), Fail> {
 }
 
 // Growing step by step would leave less.
+// Case: `from_iter` begins with room for what its iterator promises
 #[test]
 fn begins_unordered_with_room_for_the_items(rt: HostRuntime) -> Result<(), Fail> {
     for n in [5, 40] {
@@ -58,6 +110,7 @@ fn begins_unordered_with_room_for_the_items(rt: HostRuntime) -> Result<(), Fail>
 
 // The iterators promise more items than can be addressed. All items are one and the same: begun with less room, a type
 // would go through all of them.
+// Case: `from_iter` begins with room for what its iterator promises
 #[test]
 fn is_refused_the_room_for_what_is_promised(rt: HostRuntime) {
     let alloc = rt.alloc();
@@ -95,6 +148,7 @@ fn grown(alloc: Global) -> Result<SmallMap<u32, u32>, Fail> {
     Ok(map)
 }
 
+// Case: an index is no larger than it needs to be
 #[test]
 fn makes_no_larger_index_than_it_needs(rt: HostRuntime) -> Result<(), Fail> {
     serves_100(&rt, &SmallMap::with_capacity(rt.alloc(), 100)?);

@@ -34,6 +34,7 @@ fn search(map: &Numbers, hash: u32) -> (u32, Option<usize>) {
     (calls, map.find_by_hash(hash, |key| *key == 1))
 }
 
+// Case: a search by hash asks its closure about the keys of that hash alone
 #[test]
 fn asks_about_the_keys_of_a_hash(rt: HostRuntime) -> Result<(), Fail> {
     for more in MORE {
@@ -72,4 +73,27 @@ fn has_each_entry_in_its_index(rt: HostRuntime) -> Result<(), Fail> {
     map.sort_keys()?;
     same(&rt, found_by_index(&map), 42);
     Ok(())
+}
+
+// Rust's test: small_map::test_clone
+#[test]
+fn copies_walks(rt: HostRuntime) -> Result<(), Fail> {
+    let map = SmallMap::from_iter(rt.alloc(), [(1u32, 10u32), (3, 30)])?;
+    let (keys, values, entries) = (map.keys(), map.values(), map.iter());
+    let (more, other) = (keys.clone()?, values.clone()?);
+    same(&rt, entries.clone()?.last(), entries.last());
+    same(&rt, (keys.count(), keys_sum(more)), (2, 4));
+    same(&rt, (values.count(), keys_sum(other)), (2, 40));
+    Ok(())
+}
+
+fn keys_sum<'a, I: ExactSizeIterator<Item = &'a u32>>(walk: I) -> u32
+    requires { I.can_next walk }
+{
+    let _ = walk.len();
+    let mut sum = 0u32;
+    for item in walk {
+        sum = sum.wrapping_add(*item);
+    }
+    sum
 }

@@ -4,6 +4,7 @@ use crate::given::same;
 use starlark_map::{smallmap, smallset};
 use std::test::Fail;
 
+// Case: a map that is written out may be empty
 #[test]
 fn writes_maps_out(rt: HostRuntime) -> Result<(), Fail> {
     same(&rt, smallmap![rt.alloc();]?.get(&7u32), None::<&u32>);
@@ -12,6 +13,7 @@ fn writes_maps_out(rt: HostRuntime) -> Result<(), Fail> {
     Ok(())
 }
 
+// Case: a map that is written out takes the last value of a key
 // Growing step by step would leave room for 8.
 #[test]
 fn reserves_for_what_is_written_out(rt: HostRuntime) -> Result<(), Fail> {

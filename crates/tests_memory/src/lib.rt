@@ -3,6 +3,8 @@
 #![tactic(auto)]
 
 #[cfg(test)]
+mod dicts;
+#[cfg(test)]
 mod given;
 #[cfg(test)]
 mod keys;

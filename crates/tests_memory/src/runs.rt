@@ -1,12 +1,13 @@
 //! Whole runs: each of their calls does its commands where memory is there for the replies.
 
-use crate::given::{Numbers, gives};
+use crate::given::{Numbers, gives, same};
 use starlark_map::Hashed;
 use starlark_map::small_map::SmallMap;
 use starlark_runs::{
     Command, Reply, held_room_stays, replies_agree, reserved_insertions_succeed, run,
 };
 use std::alloc::{AllocError, Global};
+use std::process::Abort;
 
 type Replies = Vec<Reply<u32, u32, u32>>;
 
@@ -70,4 +71,46 @@ fn done_twice(alloc: Global) -> Result<(usize, usize), AllocError> {
 #[test]
 fn runs_twice_or_is_refused(rt: HostRuntime) {
     gives(&rt, done_twice(rt.alloc()), done_twice(rt.alloc()), (2, 2));
+}
+
+// Room for forty keys, and the forty keys.
+fn forty_keys(alloc: Global, drops_index: bool) -> Result<Vec<Command<u32, u32>>, AllocError> {
+    let mut commands = vec![in alloc; Command::Reserve(40)]?;
+    if drops_index {
+        commands.push(Command::DropIndex)?;
+    }
+    for key in 0..40u32 {
+        commands.push(Command::Insert(Hashed::new(key), key))?;
+    }
+    Ok(commands)
+}
+
+// Whether the room was reserved, how many keys were inserted, and how many there are.
+fn done_with_room(alloc: Global, drops_index: bool) -> Result<(bool, usize, usize), AllocError> {
+    let mut map: Numbers = SmallMap::new(alloc);
+    let commands = forty_keys(alloc, drops_index)?;
+    let replies = run(alloc, &mut map, commands, value_of)?;
+    let reserved = matches!(replies.get(0), Some(Reply::Done));
+    Ok((reserved, inserted(&replies), map.len()))
+}
+
+// Ends the process where two runs that were done inserted other keys than those for which there was room.
+fn runs_with_room(rt: &(impl Abort + AllocGlobal), drops_index: bool, least: usize) {
+    for _ in 0..2 {
+        if let Ok((true, inserted, len)) = done_with_room(rt.alloc(), drops_index) {
+            same(rt, (inserted.max(least), len), (inserted, inserted));
+        }
+    }
+}
+
+// Case: a run inserts what it reserved, and without its index what needs none
+#[test]
+fn inserts_what_it_reserved(rt: HostRuntime) {
+    runs_with_room(&rt, false, 40);
+}
+
+// Case: a run inserts what it reserved, and without its index what needs none
+#[test]
+fn inserts_what_needs_no_index(rt: HostRuntime) {
+    runs_with_room(&rt, true, 16);
 }

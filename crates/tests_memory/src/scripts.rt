@@ -29,6 +29,7 @@ fn plays(rt: &(impl Abort + AllocGlobal), script: &str, replies: &str) {
 }
 
 // Lists that grow, room that is asked for without an index and with one, and a sort that asks for memory.
+// Case: a script that is refused memory has answered whole lines
 #[test]
 fn plays_each_line_or_stops(rt: HostRuntime) {
     plays(

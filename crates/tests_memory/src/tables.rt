@@ -54,3 +54,28 @@ fn shows_a_vacant_slot(rt: HostRuntime) {
         );
     }
 }
+
+// How many of ten insertions into a table are done.
+fn inserted(table: &mut ReadyTable<u64>) -> u32 {
+    let mut done = 0u32;
+    for item in 0..10u64 {
+        if table.insert_unique(item, item).is_ok() {
+            done = done.wrapping_add(1);
+        }
+    }
+    done
+}
+
+// How many of ten are done into a table with room for them, and again once it was cleared.
+fn filled(alloc: Global) -> Result<(u32, u32), AllocError> {
+    let mut table = ReadyTable::with_capacity(alloc, 10)?;
+    let first = inserted(&mut table);
+    table.clear();
+    Ok((first, inserted(&mut table)))
+}
+
+// Case: a table takes what it has room for, and as much once it is cleared
+#[test]
+fn refuses_no_item_that_it_has_room_for(rt: HostRuntime) {
+    gives(&rt, filled(rt.alloc()), filled(rt.alloc()), (10, 10));
+}

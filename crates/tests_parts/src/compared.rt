@@ -6,7 +6,9 @@ ghost use Rattle.std.specs.Ordering.{on};
 ghost use Rattle.std.specs.Prelude.{nat_eq};
 
 use crate::given::same;
+use starlark_map::ordered_set::OrderedSet;
 use starlark_map::small_map::SmallMap;
+use starlark_map::small_set::SmallSet;
 use starlark_map::unordered_map::UnorderedMap;
 use std::alloc::Global;
 use std::cell::Cell;
@@ -103,7 +105,52 @@ fn unordered(alloc: Global, notes: &Notes, count: u32) -> u32 {
     right
 }
 
+// Puts each element in twice, by a call of each kind, and takes it out: how many of these went as they should.
+fn set(alloc: Global, notes: &Notes, count: u32) -> u32 {
+    let mut set: SmallSet<Noted<'_>> = SmallSet::new(alloc);
+    let mut right = 0u32;
+    for number in 0..count {
+        let put = set.get_or_insert(key(notes, number)).is_ok();
+        let again = set.get_or_insert(key(notes, number)).is_ok();
+        let there = matches!(set.insert(key(notes, number)), Ok(false));
+        right = right.wrapping_add(u32::from(put && again && there));
+    }
+    for number in (0..count).rev() {
+        let found = set.contains(&key(notes, number));
+        let taken = set.shift_remove(&key(notes, number));
+        right = right.wrapping_add(u32::from(found && taken));
+    }
+    right
+}
+
+// Tries each element, a new one and one that is there.
+fn ordered(alloc: Global, notes: &Notes, count: u32) -> u32 {
+    let mut set: OrderedSet<Noted<'_>> = OrderedSet::new(alloc);
+    let mut right = 0u32;
+    for number in 0..count {
+        let put = set.try_insert(key(notes, number)).is_ok();
+        let again = set.try_insert(key(notes, number)).is_err();
+        right = right.wrapping_add(u32::from(put && again));
+    }
+    right
+}
+
+// Case: a look-up compares a query with each key of its hash at most once
+#[test]
+fn compares_elements_of_sets_once(rt: HostRuntime) {
+    let notes = Notes {
+        seen: Cell::new(0),
+        amiss: Cell::new(0),
+    };
+    for count in [10, 100] {
+        same(&rt, set(rt.alloc(), &notes, count), count.wrapping_mul(2));
+        same(&rt, ordered(rt.alloc(), &notes, count), count);
+    }
+    same(&rt, notes.amiss.get(), 0);
+}
+
 // Short lists have no index, long ones have one.
+// Case: a look-up compares a query with each key of its hash at most once
 #[test]
 fn compares_keys_of_one_hash_once(rt: HostRuntime) {
     let notes = Notes {

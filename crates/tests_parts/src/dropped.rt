@@ -2,6 +2,7 @@
 //! cloned before a refusal is dropped.
 
 use crate::given::{same, under};
+use starlark_map::small_set::SmallSet;
 use starlark_map::vec2::Vec2;
 use starlark_map::{ReadyTable, ToOwnedKey};
 use starlark_vecmap::VecMap;
@@ -112,6 +113,7 @@ fn clones_key(alloc: Global, counts: &Counts) -> bool {
     cloned && key.as_ref().owned::<Part<'_>>(alloc).is_ok()
 }
 
+// Case: each item is cloned once
 #[test]
 fn clones_each_part_once(rt: HostRuntime) -> Result<(), Fail> {
     let counts = allowing(100);
@@ -127,6 +129,7 @@ fn clones_each_part_once(rt: HostRuntime) -> Result<(), Fail> {
 }
 
 // Each clone of six, or of three, is the one that is refused.
+// Case: a refused clone drops what it made
 #[test]
 fn drops_what_was_cloned_before_a_refusal(rt: HostRuntime) -> Result<(), Fail> {
     for left in 0..6usize {
@@ -167,6 +170,7 @@ fn cuts(mut list: Pairs<'_>, counts: &Counts) -> [usize; 5] {
     [truncated, retained, removed, popped, counts.dropped.get()]
 }
 
+// Case: each item is dropped once
 #[test]
 fn drops_each_pair_once(rt: HostRuntime) -> Result<(), Fail> {
     let counts = allowing(0);
@@ -187,6 +191,7 @@ where
     walk.len()
 }
 
+// Case: a walk that is let go drops what it leaves
 #[test]
 fn drops_what_a_walk_leaves(rt: HostRuntime) -> Result<(), Fail> {
     let counts = allowing(0);
@@ -216,6 +221,7 @@ fn leaves_items(mut table: ReadyTable<Part<'_>>) -> (usize, usize) {
     (left, walk.len())
 }
 
+// Case: each item is dropped once
 #[test]
 fn drops_each_item_of_a_table_once(rt: HostRuntime) -> Result<(), Fail> {
     let counts = allowing(0);
@@ -224,6 +230,59 @@ fn drops_each_item_of_a_table_once(rt: HostRuntime) -> Result<(), Fail> {
     let mut table = items(rt.alloc(), &counts, 40)?;
     table.clear();
     same(&rt, counted(&counts), (0, 43));
+    Ok(())
+}
+
+// How many parts are dropped once a table of forty items kept every second, and once it kept none.
+fn retains(mut table: ReadyTable<Part<'_>>, counts: &Counts) -> [usize; 2] {
+    let mut asked = 0u32;
+    table.retain(|_| {
+        asked = asked.wrapping_add(1);
+        asked % 2 == 0
+    });
+    let half = counts.dropped.get();
+    table.retain(|_| false);
+    [half, counts.dropped.get()]
+}
+
+// Case: each item is dropped once
+#[test]
+fn drops_each_item_that_is_not_kept(rt: HostRuntime) -> Result<(), Fail> {
+    let counts = allowing(0);
+    let found = retains(items(rt.alloc(), &counts, 40)?, &counts);
+    same(&rt, found, [20, 40]);
+    same(&rt, counted(&counts), (0, 40));
+    Ok(())
+}
+
+type Set<'a> = SmallSet<Part<'a>>;
+
+// A set of this many elements under different hashes. All elements are equal.
+fn elements(alloc: Global, counts: &Counts, count: u32) -> Result<Set<'_>, AllocError> {
+    let mut set = SmallSet::new(alloc);
+    for hash in 0..count {
+        set.insert_hashed(under(hash, Part { counts }))?;
+    }
+    Ok(set)
+}
+
+// How many parts are dropped once an element under a hash was removed, and whether it was there. The query is dropped too.
+fn removes<'a>(mut set: Set<'a>, counts: &'a Counts, hash: u32) -> (bool, usize) {
+    let query = under(hash, Part { counts });
+    let there = set.shift_remove_hashed(query.as_ref());
+    (there, counts.dropped.get())
+}
+
+// Without an index and with one.
+// Case: each item is dropped once
+#[test]
+fn drops_an_element_that_is_removed(rt: HostRuntime) -> Result<(), Fail> {
+    for count in [3, 40] {
+        let counts = allowing(0);
+        let found = removes(elements(rt.alloc(), &counts, count)?, &counts, 1);
+        same(&rt, found, (true, 1));
+        same(&rt, counts.dropped.get(), (count as usize).wrapping_add(1));
+    }
     Ok(())
 }
 

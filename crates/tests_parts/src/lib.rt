@@ -18,8 +18,12 @@ mod one_request;
 #[cfg(test)]
 mod scripts;
 #[cfg(test)]
+mod searches;
+#[cfg(test)]
 mod sizes;
 #[cfg(test)]
 mod streams;
+#[cfg(test)]
+mod without_memory;
 #[cfg(test)]
 mod without_size;

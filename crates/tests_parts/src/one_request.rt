@@ -5,6 +5,7 @@ use crate::given::same;
 use starlark_map::{TextKey, ToOwnedKey};
 use std::test::Fail;
 
+// Case: a copy of a text asks for memory once
 #[test]
 fn copies_a_text(rt: HostRuntime) -> Result<(), Fail> {
     let key: String = TextKey("a text of some length").to_owned_key(rt.alloc())?;

@@ -29,11 +29,14 @@ fn walked<A: Drop + Debug, B: Drop + Debug>(
     (forth, back, last, first, walk.len())
 }
 
+// Case: pairs of which a part has no size
 #[test]
 fn parts_without_size(rt: HostRuntime) -> Result<(), Fail> {
     let list = five(rt.alloc(), ((), 7u32))?;
+    same(&rt, list.capacity(), 8);
     same(&rt, walked(list), (5, 5, Some(((), 7)), Some(((), 7)), 3));
     let list = five(rt.alloc(), (7u32, ()))?;
+    same(&rt, list.capacity(), 8);
     same(&rt, walked(list), (5, 5, Some((7, ())), Some((7, ())), 3));
     let list = five(rt.alloc(), ((), ()))?;
     same(&rt, list.capacity(), 8);
