@@ -5,13 +5,15 @@
 SCRIPT ?= examples/first.script
 # a crate, by its name; of `wrong`, none: all; of `vendor`, the crate of the other repository that is to use the library
 CRATE ?=
+# a wrong body, by its name
+BODY ?=
 # the lines of a benchmark run of Rust's, to be set beside ours; none: ours alone
 RUST ?=
 # the repository that is to have the crates
 INTO ?=
 # not empty: what the checks of these crates kept comes too
 PROOFS ?=
-export SCRIPT CRATE RUST INTO
+export SCRIPT CRATE BODY RUST INTO
 
 .PHONY: help try run demo play check tests test minutes pages bench chart vendor wrong refused hostile attack clean
 
@@ -68,19 +70,20 @@ bench: ## proves and runs the benchmarks, beside the maps of the kit: some ten m
 	@cd crates/program_bench && rt run > /dev/null
 	@if [ -n "$$RUST" ]; then ./bench/measure "$$RUST"; else ./bench/measure; fi
 
-chart: ## draws the picture of speed from its table, at once
+chart: ## draws the pictures of speed from their tables, at once
 	$(says)
+	@python3 bench/chart.py docs/SPEED.md "Texts" > docs/speed_texts.svg
 	@python3 bench/chart.py docs/SPEED.md "Beside Rust's maps" > docs/speed.svg
 
 vendor: ## copies starlark_map and the crates below it INTO another repository, whose CRATE is to use them, in seconds; with PROOFS=yes also their proofs, 4.5 GB
 	$(says)
 	@./vendor/copy "$$INTO" $(if $(CRATE),"$$CRATE") $(if $(PROOFS),--proofs)
 
-wrong: ## tries the wrong bodies that stand beside the gate, of CRATE or of all: minutes for each crate
+wrong: ## tries the wrong body BODY, in about a minute, and prints the goal at which the check stops; or those beside the gate, of CRATE or of all: minutes for each crate
 	$(says)
-	@if [ -n "$$CRATE" ]; then ./wrong-bodies/try "$$CRATE"; else ./wrong-bodies/try; fi
+	@if [ -n "$$BODY" ]; then ./wrong-bodies/one "$$BODY"; elif [ -n "$$CRATE" ]; then ./wrong-bodies/try "$$CRATE"; else ./wrong-bodies/try; fi
 
-refused: ## has each request for memory refused in turn, of a script of the player and of the tests of memory, with no proof, in some three minutes
+refused: ## has each request for memory refused in turn, of scripts of the player and of the tests of memory, with no proof, in some four minutes
 	$(says)
 	@./refusals/try
 	@./refusals/tests

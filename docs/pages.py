@@ -2,12 +2,15 @@
 """The pages of docs/reference, which are written from the sources, and what a page may not say.
 
     docs/pages.py write    writes docs/reference, of starlark_map and each crate below it: the public calls with their comments and
-                           contracts, a page a type, and the words of these contracts with their comments
+                           contracts, a page a type, and the words of these contracts with their comments; and docs/CASES.md,
+                           where each case of docs/cases.txt is
     docs/pages.py check    says where a page is not what the sources say: a written page that is out of date; a public word of
                            specs/ or a public function with no comment; a name, a clause, a file, a target of make, a link or
-                           a heading that is not there; lines that are quoted from a file where they do not stand; a name in
+                           a heading that is not there; a public call with a condition that docs/DECISIONS.md does not list; a wrong
+                           count of commands in PLAYER; lines that are quoted from a file where they do not stand; a name in
                            elsewhere.txt that no page needs; a changelog that does not begin with VERSION; where
-                           crates/tests_memory/calls.txt is not the list of the calls that may be refused
+                           crates/tests_memory/calls.txt is not the list of the calls that may be refused; a name in
+                           docs/cases.txt that no case has, and a case that has no name there
 """
 import re
 import subprocess
@@ -106,6 +109,12 @@ def parsed(path):
     return types, calls
 
 
+def may_refuse(call):
+    """Whether the call answers a Result."""
+    signature = re.split(r" (?:where|requires|ensures)\b", " ".join(it.strip() for it in call.head))[0]
+    return re.match(r"\s*Result<", signature.rpartition("->")[2])
+
+
 def public_calls(path):
     return [call for call in parsed(path)[1] if call.kind in ("pub", "trait")]
 
@@ -178,7 +187,8 @@ def words_page(crate):
 def call_entry(call, path, pages_of_words):
     """A heading with what the call does, when it is refused, its contract, and where the words of that are explained."""
     sentences = re.split(r"(?<=\.) (?=[A-Z`])", call.note)
-    refused = [s for s in sentences if re.search(r"refus|\bErr\b|handed back|hands .* back|comes back", s)]
+    # what a call without a Result refuses is no memory, as a closure that refuses keys, and the first sentence says what the call does
+    refused = [s for s in sentences[1:] if re.search(r"refus|\bErr\b|handed back|hands .* back|comes back", s)] if may_refuse(call) else []
     does = " ".join(s for s in sentences if s not in refused)
     imported = {}
     for crate, file, names in re.findall(r"ghost use Rattle\.(\w+)\.specs\.(\w+)\.\{([^}]*)\}", path.read_text()):
@@ -218,7 +228,56 @@ def reference():
                 found[f"{REFERENCE}/{file}"] = page
             out.append(f"| {link(name if name in ('functions', 'words') else f'`{name}`', file)} | {re.sub('[.:]( .*)?$', '.', note)} |")
     found[f"{REFERENCE}/README.md"] = out
+    found["docs/CASES.md"] = cases_page()
     return {name: "\n".join(lines) + "\n" for name, lines in found.items()}
+
+
+# The cases, by the rule that each shows
+
+def listed_cases():
+    """The names of docs/cases.txt, in their groups."""
+    groups = {}
+    for line in (TOP / "docs/cases.txt").read_text().split("\n"):
+        if line.startswith("  "):
+            groups[list(groups)[-1]].append(line.strip())
+        elif line and line[0] != "#":
+            groups[line] = []
+    return groups
+
+
+@cache
+def places_of_cases():
+    """Where each case is: at a line of a script, or in a function of a test."""
+    places = {}
+    for path in tracked("crates/program_player/stdin") + tracked("refusals/rooms") + tracked("crates/tests*.rt"):
+        lines = path.read_text().split("\n")
+        for at, line in enumerate(lines):
+            made = re.fullmatch(r"\s*(?:#|//) (?:Case|Rust's test): (.*)", line)
+            if made and path.suffix == ".rt":
+                # above a test, or within one
+                around = reversed(lines[:at]) if indent(line) else lines[at:]
+                function = next(found[1] for found in map(re.compile(r"fn (\w+)").match, around) if found)
+                places.setdefault(made[1], []).append((path, f"`{function}`"))
+            elif made:
+                places.setdefault(made[1], []).append((path, f"line {at + 1}"))
+    return places
+
+
+def cases_page():
+    out = ["# The cases", "", "Written by `make pages` from `docs/cases.txt`, which has the names, and from the lines `# Case:` and `# Rust's test:` of scripts and tests. The gate fails if one is missing. A script of [the player](PLAYER.md) has its answers beside it, in a file whose name ends in `stdout`. `make refused` plays those of `refusals/rooms`, and tries each test of `crates/tests_memory` with each request for memory refused."]
+    for group, names in listed_cases().items():
+        out += ["", f"## {group}", "", "| Case | Where |", "|---|---|"]
+        for name in names:
+            places = [f"{where} of {link(f'`{named(path)}`', f'../{named(path)}')}" for path, where in places_of_cases().get(name, [])]
+            out.append(f"| {name} | {', '.join(places)} |")
+    return out
+
+
+def faults_of_cases():
+    listed = [name for names in listed_cases().values() for name in names]
+    yield from (f"docs/cases.txt: there is no case {name}" for name in listed if name not in places_of_cases())
+    yield from (f"{named(places[0][0])}: docs/cases.txt has no case {name}" for name, places in places_of_cases().items() if name not in listed)
+    yield from (f"docs/cases.txt: {name} is there {times} times" for name, times in Counter(listed).items() if times > 1)
 
 
 # What a page may not say
@@ -246,15 +305,20 @@ def faults():
     version, newest = (TOP / "VERSION").read_text().strip(), re.search(r"^## (\S+),", (TOP / "CHANGELOG.md").read_text(), re.M)
     if not newest or newest.group(1) != version:
         yield f"CHANGELOG.md does not begin with {version}, as VERSION has it"
+    yield from faults_of_conditions()
+    answers = (TOP / "crates/program_player/stdout").read_text().count("\n")
+    if f"{answers:,} commands" not in (TOP / "docs/PLAYER.md").read_text():
+        yield f"docs/PLAYER.md: the corpus has {answers:,} commands"
     yield from faults_of_names()
     yield from faults_of_clauses()
     yield from faults_of_links()
     yield from faults_of_quotes()
     yield from faults_of_refusals()
+    yield from faults_of_cases()
 
 
 def faults_of_names():
-    sources = set()
+    sources, files = set(), {path.name for path in tracked(".")}
     for path in tracked("."):
         if path.suffix != ".md" and path.name != "elsewhere.txt" and path.parent.name != "results":
             sources.update(NAME.findall(path.read_bytes().decode(errors="ignore") + " " + named(path)))
@@ -268,6 +332,10 @@ def faults_of_names():
                     needed.add(word)
                     if word not in elsewhere:
                         yield f"{named(page)}: there is no {word} (`{quoted}`)"
+            if re.fullmatch(r"[\w-]+\.(rt|antt|py|edit)", quoted) and quoted not in files:
+                needed.add(quoted)
+                if quoted not in elsewhere:
+                    yield f"{named(page)}: there is no file {quoted}"
             if re.fullmatch(r"[\w.-]+(/[\w.-]+)+", quoted) and not re.search(r"NAME|CRATE|PATH|FUNCTION|\.\.", quoted):
                 if not any(True for place in ("", "crates/", "crates/*/") for _ in TOP.glob(place + quoted)):
                     yield f"{named(page)}: there is no file {quoted}"
@@ -341,8 +409,7 @@ def faults_of_refusals():
     for of in library():
         for path in tracked(f"crates/{of}/src/*.rt") if of != "starlark_callers" else []:
             for call in parsed(path)[1]:
-                signature = re.split(r" (?:where|requires|ensures)\b", " ".join(it.strip() for it in call.head))[0]
-                if call.kind in ("pub", "impl") and re.match(r"\s*Result<", signature.rpartition("->")[2]):
+                if call.kind in ("pub", "impl") and may_refuse(call):
                     there.append((of, f"{call.owner or path.stem}::{call.name}"))
     for line in (TOP / name).read_text().split("\n"):
         call, _, tried = line.partition(": ")
@@ -366,6 +433,21 @@ def faults_of_refusals():
     for of, call in sorted({*listed, *there}):
         if listed.count((of, call)) != there.count((of, call)):
             yield f"{name}: {of} has {call} {there.count((of, call))} times, the list {listed.count((of, call))} times"
+
+
+def faults_of_conditions():
+    """The page of decisions names each public call that asks something of its caller, `Type::{call, call}` those of one type."""
+    name = "docs/DECISIONS.md"
+    part = re.search(r"^## Conditions$(.*?)^## ", (TOP / name).read_text(), re.M | re.S).group(1)
+    listed = set(re.findall(r"`((?:\w+::)?[a-z]\w*)`", part))
+    listed.update(f"{owner}::{call}" for owner, calls in re.findall(r"`(\w+)::\{([^}]*)\}`", part) for call in calls.split(", "))
+    asking, calls = set(), set()
+    for path in [path for crate in library() if crate not in ("starlark_callers", "starlark_uses") for path in tracked(f"crates/{crate}/src/*.rt")]:
+        for call in public_calls(path):
+            calls.add(full := f"{call.owner}::{call.name}" if call.owner else call.name)
+            asking.update([full] if any(line.strip().startswith("requires") for line in call.head) else [])
+    yield from (f"{name}: the conditions of {it} are not listed" for it in sorted(asking - listed))
+    yield from (f"{name}: {it} has no condition" for it in sorted(listed & calls - asking | {it for it in listed - calls if "::" in it}))
 
 
 def main():
