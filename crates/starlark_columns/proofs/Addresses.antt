@@ -1,9 +1,9 @@
--- The machine's values of an `Address` and of a `Spot`, which own nothing. Assumes `Logic`.
-use Rattle.starlark_columns.proofs.Walking.{◌≡◌, ℕ, ◌<◌, ◌^◌, List, [], ◌∷◌, ◌++◌, refl, ap, ◌∙◌, lit<, w64, Ura, ent, emp, ty_ptr, ty_int, ty_struct, tcons, tnil, Val, vint, vstruct, vcons, vnil, of_list, has_ty, WT, Logic, sem, Is, RattleType, Ptr, block_ptr, null_ptr, ptr_val, makes_shadow, T}
+-- The machine values of an `Address` and of a `Spot`, which own nothing. Assumes `Logic`.
+use Rattle.starlark_columns.proofs.LogicNames.{◌≡◌, ℕ, ◌<◌, ◌^◌, List, [], ◌∷◌, ◌++◌, refl, ap, ◌∙◌, lit<, w64, Ura, ent, emp, ty_ptr, ty_int, ty_struct, tcons, tnil, Val, vint, vstruct, vcons, vnil, of_list, has_ty, WT, Logic, sem, Is, RattleType, Ptr, block_ptr, null_ptr, ptr_val, makes_shadow, T}
 use Rattle.starlark_columns.specs.contracts.block.Address as address
 use Rattle.starlark_columns.specs.contracts.block.Spot as spot
 
--- an `Address`
+-- the machine value of an `Address`
 abbrev pub word : Ptr → Val
 word p = vstruct (vcons (ptr_val p) vnil)
 
@@ -11,7 +11,7 @@ pub word_good : (p : Ptr) → T (has_ty (ty_struct [] (tcons ty_ptr tnil)) (word
 word_good (block_ptr b o) = (tt, (tt, tt))
 word_good null_ptr = (tt, (record { fits = lit< tt }, tt))
 
--- a `Spot`
+-- the machine value of a `Spot`
 abbrev pub words : Ptr → ℕ → Val
 words p n = vstruct (vcons (word p) (vcons (vint w64 n) vnil))
 

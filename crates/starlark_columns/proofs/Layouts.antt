@@ -1,7 +1,7 @@
--- Room for two arrays is cut into the rooms of both, with the way back; and sizes that are cut at the greatest `usize` as they are
--- added up, and so the layout of a block. Assumes `Logic`.
+-- The memory of two arrays in one block, which is split into the memory of each and joined again; and the layout of the
+-- block, whose sizes are capped at the greatest `usize`. Assumes `Logic`.
 use Rattle.std.proofs.Common.{◌≡◌, ℕ, ◌+◌, ◌-◌, ◌*◌, ◌%◌, ◌^◌, ◌<◌, min, max, sym, ◌∙◌, arith}
-use Rattle.starlark_columns.proofs.Walking.{zero, Bool, false, [], ◌∷◌, refl, ap, zero-add, eqb, cond, Ura, Fml, ftrue, froom, SProp, ent, sep, wand, id⊢, apply∗, bare, Ty, Tys, tcons, tnil, ty_array, capped_small, size, align, up, capped, rooms_at, ‵, raw, ◌⊛◌, ◌$◌, ◌∵◌, !, qed, by, move, keep, use1, use2, split, split3, group, rewrite, assume, done, Logic, sem, block_ptr, nothing, pad, HasLayout}
+use Rattle.starlark_columns.proofs.LogicNames.{zero, Bool, false, [], ◌∷◌, refl, ap, zero-add, eqb, cond, Ura, Fml, ftrue, froom, SProp, ent, sep, wand, id⊢, apply∗, bare, Ty, Tys, tcons, tnil, ty_array, capped_small, size, align, up, capped, rooms_at, ‵, raw, ◌⊛◌, ◌$◌, ◌∵◌, !, qed, by, move, keep, use1, use2, split, split3, group, rewrite, assume, done, Logic, sem, block_ptr, nothing, pad, HasLayout}
 use prog.Align.{align_pos}
 use prog.Capped.{capped_is, capped_small}
 use Rattle.std_alloc.proofs.VecSteps.El.{align_fits}
@@ -9,7 +9,7 @@ use Rattle.starlark_columns.specs.Pair.{two_arrays, arrays_skipped, rooms_rejoin
 use Rattle.std.proofs.lemmas.Bool.Decides.{nat_tests}
 use Rattle.std.proofs.lemmas.Grind.{common_steps}
 
--- what is owned of cells that take bytes, and of cells that take none
+-- what is owned of cells that take bytes (`some_weight`), and of cells that take none (`no_weight`)
 pub some_weight : (k : ℕ) (F : Fml) → 0 < k → cond (eqb k 0) ftrue F ≡ F
 some_weight k F h = let e : eqb k 0 ≡ false = grind (arith, nat_tests) in ap (λ (z : Bool). cond z ftrue F) e
 
@@ -37,11 +37,11 @@ module _ (τ σ : Ty) (n : ℕ) {M : Type 1} {𝓤 : Ura M} (𝓛 : Logic 𝓤) 
       rewrite ! 0 (λ (d : ℕ). ‵ (froom (ty_array τ n) b d)) first_is refl $ rewrite ! 1 (λ (d : ℕ). ‵ (froom (ty_array σ n) b d)) second_is refl $
       keep ! (3 ∷ 0 ∷ 1 ∷ []) $ use1 𝓛 (‵ Rejoin) rejoins $ move ! (1 ∷ 2 ∷ 0 ∷ []) $ done !
 
--- both arrays are within the block
+-- each of both arrays takes fewer than 2 ^ 63 bytes, since the block does
 pub both_within : (τ σ : Ty) (n z : ℕ) → capped (size (two_arrays τ σ n)) ≡ z → z < 2 ^ 63 → (n * size τ < 2 ^ 63) × (n * size σ < 2 ^ 63)
 both_within τ σ n z laid fits = let fit = capped_small (size (two_arrays τ σ n)) (rw laid fits) in (omega (arith, fit), omega (arith, fit))
 
--- ---- sizes that are cut
+-- ---- capped sizes
 abbrev Greatest : ℕ
 Greatest = 2 ^ 64 - 1
 
@@ -60,7 +60,7 @@ exact τ = capped_is (align τ) (align_fits τ)
 pub some_align : (τ : Ty) (a : ℕ) → a ≡ capped (align τ) → 0 < a
 some_align τ a e = omega (arith, exact τ, align_pos τ)
 
--- the offset, the size and the alignment that are computed are those of two arrays
+-- the offset, the size and the alignment that `laid_out` computes are those of two arrays
 pub layout_is : (τ σ : Ty) (n a b al f s off end z : ℕ) → a ≡ capped (align τ) → b ≡ capped (align σ) → al ≡ max a b → f ≡ min (n * capped (size τ)) Greatest → s ≡ min (n * capped (size σ)) Greatest
     → off ≡ min (f + pad b f) Greatest → end ≡ min (off + s) Greatest → z ≡ min (end + pad al end) Greatest → HasLayout (two_arrays τ σ n) z al
 layout_is τ σ n a b al f s off end z ea eb el ef es eo ee ez =
@@ -71,7 +71,7 @@ layout_is τ σ n a b al f s off end z ea eb el ef es eo ee ez =
     let ends : end ≡ capped (behind + n * size σ) = omega (arith, far, times_cut n (size σ), cut behind, cut (n * size σ), cut (behind + n * size σ)) in
     (rw (sized, ez, ends) (sym (up_cut (behind + n * size σ) al)), exact ω ∙ sym aligned)
 
--- below the bound nothing is cut
+-- the offset computed modulo 2^64 is the exact one if the block takes fewer than 2 ^ 63 bytes
 pub skipped_exact : (τ σ : Ty) (n z al : ℕ) → HasLayout (two_arrays τ σ n) z al → z < 2 ^ 63 → arrays_skipped τ σ n ≡ up (align σ) (n * size τ)
 skipped_exact τ σ n z al laid fits =
     let small = capped_small (size (two_arrays τ σ n)) (rw laid.0 fits) in let flush = starts_flush τ in let far = up (align σ) (n * size τ) in

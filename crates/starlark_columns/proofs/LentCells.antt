@@ -1,11 +1,11 @@
--- Cells that are lent together: the next comes off, to be written or to stay. Assumes `Logic`.
---     item_off    the item of a full cell comes off, beside the cells behind it
---     cell_off    a cell stays as it is, and the cells behind it are left
---     loan_told   the machine's value of a loan
-use Rattle.starlark_columns.proofs.Walking.{◌≡◌, refl, sym, ap, ℕ, ◌+◌, ◌<◌, arith, List, [], ◌∷◌, length, Ura, ent, sep, emp, Lft, GName, Share, flft, fobs, fbor, Item, ‵, raw, ◌⊛◌, some, later, mean, ◌$◌, ◌∵◌, !, qed, move, keep, use1, split, split3, pick, fsplit, fjoin, rewrite, group, await, updating, now, show, done, Logic, sem, Body, open_ref, after₂, takes_part, takes_two, RattleType, block_ptr, nothing, None, type_size, suc, ◌*◌, ◌^◌, ◌++◌, ◌∙◌, subst, suc-mul, times_below, Val, vstruct, vcons, vnil, vptr, of_list, ptr_val, Ptr, NamedLft, Is, Fml, given, check, flt_i, flt_l, list_drop, Option, Some, IsFilled, after₁}
+-- Cells that are lent together, from which the next is taken, to be written or skipped. Assumes `Logic`.
+--     item_off    the item of a full cell is taken, and the cells behind it are left
+--     cell_off    a cell is skipped, and the cells behind it are left
+--     loan_told   the machine value of a loan
+use Rattle.starlark_columns.proofs.LogicNames.{◌≡◌, refl, sym, ap, ℕ, ◌+◌, ◌<◌, arith, List, [], ◌∷◌, length, Ura, ent, sep, emp, Lft, GName, Share, flft, fobs, fbor, Item, ‵, raw, ◌⊛◌, some, later, mean, ◌$◌, ◌∵◌, !, qed, move, keep, use1, split, split3, pick, fsplit, fjoin, rewrite, group, await, updating, now, show, done, Logic, sem, Body, open_ref, after₂, takes_part, takes_two, RattleType, block_ptr, nothing, None, type_size, suc, ◌*◌, ◌^◌, ◌++◌, ◌∙◌, subst, suc-mul, times_below, Val, vstruct, vcons, vnil, vptr, of_list, ptr_val, Ptr, NamedLft, Is, Fml, given, check, flt_i, flt_l, list_drop, Option, Some, IsFilled, after₁}
 use Rattle.starlark_columns.specs.Ownership.{cell_owned}
 use Rattle.starlark_columns.specs.contracts.column.Column.{the_row}
-use Rattle.starlark_columns.proofs.Slotting.{filled_within}
+use Rattle.starlark_columns.proofs.CellsOfSlots.{filled_within}
 use Rattle.starlark_columns.specs.contracts.loan.Loan as loan
 use Rattle.starlark_columns.specs.declared.loan.Keeps as Keeps
 pub use Rattle.starlark_columns.specs.Loan.{kept_cell, kept_cells, KeptItem, KeptCells, lent_item, lent_cells, lent_from}
@@ -31,7 +31,7 @@ module _ {X : Type 0} (kept : X → X → X) where
     cells_itself [] = refl
     cells_itself (c ∷ cs) = λ i. cell_itself c i ∷ cells_itself cs i
 
--- the cells from the i-th on, in the block at o
+-- the lent cells from the index i on, in the block at o
 module _ (R : RattleType) (kept : R.Denot → R.Denot → R.Denot) (itself : (x : R.Denot) → kept x x ≡ x) {M : Type 1} {𝓤 : Ura M} (𝓛 : Logic 𝓤) (κ : Lft) (q : Share) (b o i : ℕ) (γ : GName) where
   open 𝓛 use {H, A}
 
@@ -46,7 +46,7 @@ module _ (R : RattleType) (kept : R.Denot → R.Denot → R.Denot) (itself : (x 
       qed 𝓛 (‵ (lent_cells R kept κ b (here + type_size R) δ cs) ∷ []) ∵ rewrite ! 0 (λ (k : ℕ). ‵ (lent_cells R kept κ b k δ cs)) on refl $
       flt_i ! ((suc i + length cs) * type_size R) (2 ^ 63) (subst (λ (k : ℕ). k * type_size R < 2 ^ 63) n small) $ fjoin ! $ done !
 
-  -- the item, and the cells behind it
+  -- what `item_off` gives: the right to write the item, the loan of the cells behind it, and the lifetime's token
   abbrev pub Off : (cs : List (Option R.Denot)) → IsFilled cs 0 → GName × GName → Item 𝓤
   Off cs full γs = given ((cs ≡ Some full.0 ∷ list_drop 1 cs) × (i * type_size R < 2 ^ 64)) (‵ (lent_item R kept κ b here γs.0 full.0) ⊛ ‵ (Behind γs.1 (list_drop 1 cs)) ⊛ ‵ (flft κ q))
 

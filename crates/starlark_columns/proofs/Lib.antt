@@ -1,16 +1,16 @@
-mod Crossing
+mod SendSync
 mod Memory
 mod RowValues
 mod Layouts
-mod Slotting
+mod CellsOfSlots
 mod LentCells
 pub mod PairParts
-pub mod EntryOut
-pub mod Fronts
-pub mod NamedClose
-pub mod Betweens
+pub mod EntryParts
+pub mod ItemsAtFront
+pub mod NamedLoan
+pub mod ItemsBetween
 pub mod LoneValue
 pub mod LentParts
 pub mod Addresses
-pub mod Walking
-pub mod Steps
+pub mod LogicNames
+pub mod ProofSteps

@@ -1,5 +1,6 @@
--- A row of cells is made of room, cut, and read as the kit's slots or as the items of a slice. Assumes `Logic`.
-use Rattle.starlark_columns.proofs.Walking.{◌≡◌, ℕ, zero, suc, ◌+◌, ◌*◌, ◌≤◌, ◌<◌, Bool, true, false, List, [], ◌∷◌, ◌++◌, map, length, Option, Some, refl, sym, ap, subst, ◌∙◌, arith, zero-mul, suc-mul, get_or, set, at_mul, cut_app, join_app, Ura, Fml, Lft, fsep, fat, froom, full_share, SProp, ent, sep, emp, wand, all, used_at, via, id⊢, snd∗, mono_r, ty_array, Val, dv_self, align, ‵, raw, ◌⊛◌, some, given, ◌$◌, ◌∵◌, !, qed, by, move, keep, use1, split, pick, learn, rewrite, fsplit, frame, done, Logic, sem, SemTy, cells, mem, part_at, block_ptr, elements_shared, El, el_x, elτ, el_out, slots, drop_split, slice_range, type_size, unwrap_or, is_some, list_drop, None, empties}
+-- The memory of a row of cells: it is made of uninitialized memory, split and joined, and read as the kit's `Slots` or
+-- as the items of a slice. Assumes `Logic`.
+use Rattle.starlark_columns.proofs.LogicNames.{◌≡◌, ℕ, zero, suc, ◌+◌, ◌*◌, ◌≤◌, ◌<◌, Bool, true, false, List, [], ◌∷◌, ◌++◌, map, length, Option, Some, refl, sym, ap, subst, ◌∙◌, arith, zero-mul, suc-mul, get_or, set, at_mul, cut_app, join_app, Ura, Fml, Lft, fsep, fat, froom, full_share, SProp, ent, sep, emp, wand, all, used_at, via, id⊢, snd∗, mono_r, ty_array, Val, dv_self, align, ‵, raw, ◌⊛◌, some, given, ◌$◌, ◌∵◌, !, qed, by, move, keep, use1, split, pick, learn, rewrite, fsplit, frame, done, Logic, sem, SemTy, cells, mem, part_at, block_ptr, elements_shared, El, el_x, elτ, el_out, slots, drop_split, slice_range, type_size, unwrap_or, is_some, list_drop, None, empties}
 use Rattle.std.specs.Coded.{coded_option}
 use borrow.Table.Elements.{focus_any}
 use Rattle.core.proofs.mem.Param.{R, Good}
@@ -32,7 +33,7 @@ module _ (E : El) (b : ℕ) where
   abbrev pub Row : ℕ → List (Option (el_x E)) → Fml
   Row o cs = cells_owned (R E) (block_ptr b o) cs
 
-  -- a cell as what an array has in one place
+  -- a cell as the type of the elements of an array
   abbrev Place : SemTy
   Place = record { rep = Option (el_x E); coded = coded_option E.row.coded; size = s; own_at = λ c d o. Cell o c }
 
@@ -67,14 +68,14 @@ module _ (E : El) (b : ℕ) where
         use1 𝓛 (‵ (froom (elτ E) b o)) (𝓛.laws.raw-room (elτ E) b o) $ move ! (1 ∷ []) $
         use1 𝓛 (‵ (froom (ty_array (elτ E) n) b (o + s))) (to_room n (o + s)) $ move ! (1 ∷ 0 ∷ []) $ by ! (𝓛.laws.room_cons (elτ E) n b o)
 
-    -- room for nothing stands anywhere, and so does room for items of no bytes
+    -- cells that take no bytes are owned at any address
     pub weightless : (n o : ℕ) → n * s ≡ 0 → ent 𝓤 (emp 𝓤) (sem 𝓛 (Row o (empties n)))
     weightless n o light = let τ = ty_array (elτ E) n in let nil = ty_array (elτ E) 0 in
         via 𝓤 (H.room nil b o) (𝓛.laws.room_nil (elτ E) b o) (qed 𝓛 (‵ (froom nil b o) ∷ []) ∵
         use1 𝓛 (‵ (froom τ b o) ⊛ raw (wand 𝓤 (H.room τ b o) (H.room nil b o))) (𝓛.laws.room_as nil τ b o (light ∙ sym (zero-mul s)) (dv_self (align (elτ E)))) $ split ! $
         keep ! (0 ∷ []) $ by ! (of_room n o))
 
-    -- an item that is there may be forgotten
+    -- the item of a cell may be forgotten
     forgets : (o : ℕ) (c : Option (el_x E)) → ent 𝓤 (sem 𝓛 (Cell o c)) (sem 𝓛 (Cell o None))
     forgets o None = id⊢ 𝓤 _
     forgets o (Some x) = qed 𝓛 (‵ (part_at (R E) full_share x b o) ∷ []) ∵
@@ -87,7 +88,7 @@ module _ (E : El) (b : ℕ) where
     empties_run (suc from) (suc to) (c ∷ cs) o = mono_r 𝓤 (sem 𝓛 (Cell o c)) (empties_run from to cs (o + s))
     empties_run from to (c ∷ cs) o = id⊢ 𝓤 _
 
-    -- what a `&` to the cells holds
+    -- what is lent by a `&` to the cells
     module _ (κ : Lft) where
       abbrev Seen : ℕ → List (Option (el_x E)) → Fml
       Seen o cs = cells_lent (R E) (block_ptr b o) cs κ
@@ -115,7 +116,7 @@ module _ (E : El) (b : ℕ) where
     glue cs ds o at e = subst (λ (z : (List (Option (el_x E)) → ℕ → Fml) × ℕ). ent 𝓤 (sep 𝓤 (sem 𝓛 (z.0 cs o)) (sem 𝓛 (z.0 ds z.1))) (sem 𝓛 (z.0 (cs ++ ds) o)))
         (λ j. (λ es k. of_places es k j, (at_mul o s (length cs) ∙ sym e) j)) (join_app 𝓛 Place cs ds b o)
 
-    -- a row without its i-th cell
+    -- a row without its cell at i: given that cell, it is the row again
     abbrev pub Without : List (Option (el_x E)) → ℕ → ℕ → SProp 𝓤
     Without cs i o = all 𝓤 (λ c. wand 𝓤 (sem 𝓛 (Cell (i * s + o) c)) (sem 𝓛 (Row o (set cs i c))))
 

@@ -1,9 +1,9 @@
--- A pair in memory is its two parts, and back; and parts of a lent item leave: a `&` to one and a `&mut` to another.
--- Assumes `Logic`.
-use Rattle.starlark_columns.proofs.Walking.{refl, ℕ, zero, ◌+◌, List, [], ◌∷◌, Ura, Lifetime, Val, vptr, full_share, SProp, ent, sep, emp, wand, id⊢, all_e, apply∗, Lft, GName, Share, Fml, Incl, Incl-refl, ftrue, fseps, flft, fobs, fbor, fauth, fobor, Gv, size, align, up, Item, ‵, raw, ◌⊛◌, some, later, mean, ◌$◌, ◌∵◌, !, qed, by, move, keep, use0, use1, use2, split, split3, pick, fsplit, fsplit3, fjoin, fjoin3, feq_i, group, await, updating, now, show, done, Logic, sem, SemTy, Body, takes_beside, mem, lone, part_at, part_of, hide, Laws, RattleType, Denots, MutRef, ShrRef, lawfuls, Member, row_of, rows_of, parts_at, shape_of, PartsBack, Struct-parts, Struct, Tuple, tuple_type, parts_loose}
+-- A pair in memory as its two parts, and back; and two parts of a lent item, of which one is shared by a `&` and the
+-- other lent by a `&mut`. Assumes `Logic`.
+use Rattle.starlark_columns.proofs.LogicNames.{refl, ℕ, zero, ◌+◌, List, [], ◌∷◌, Ura, Lifetime, Val, vptr, full_share, SProp, ent, sep, emp, wand, id⊢, all_e, apply∗, Lft, GName, Share, Fml, Incl, Incl-refl, ftrue, fseps, flft, fobs, fbor, fauth, fobor, Gv, size, align, up, Item, ‵, raw, ◌⊛◌, some, later, mean, ◌$◌, ◌∵◌, !, qed, by, move, keep, use0, use1, use2, split, split3, pick, fsplit, fsplit3, fjoin, fjoin3, feq_i, group, await, updating, now, show, done, Logic, sem, SemTy, Body, takes_beside, mem, lone, part_at, part_of, hide, Laws, RattleType, Denots, MutRef, ShrRef, lawfuls, Member, row_of, rows_of, parts_at, shape_of, PartsBack, Struct-parts, Struct, Tuple, tuple_type, parts_loose}
 use types.Follow.{after}
 
--- a type of one machine value, as a part
+-- a type with one machine value, as a field
 abbrev pub part : RattleType → Member
 part T = record { row = T; ty = lone T.mir }
 
@@ -17,7 +17,7 @@ module _ (m n : Member) where
   abbrev pub Pair : RattleType
   Pair = Tuple (R ∷ S ∷ [])
 
-  -- where the two parts of the pair at o lie
+  -- the offsets of both parts of the pair at o
   abbrev pub first_at : ℕ → ℕ
   first_at o = o + up (align m.ty) zero
 
@@ -54,7 +54,7 @@ module _ (m n : Member) where
         (all_e 𝓤 (λ (a : Denots (rows_of ms)). wand 𝓤 (sem 𝓛 (parts_at full_share ms zero a b o)) (sem 𝓛 (part_at (Struct (shape_of (tuple_type (R ∷ S ∷ [])).name ms)) full_share a b o))) a') $
         move ! (1 ∷ 0 ∷ []) $ by ! (apply∗ 𝓤 (sem 𝓛 (parts_at full_share ms zero a' b o)) (sem 𝓛 (part_at (Struct (shape_of (tuple_type (R ∷ S ∷ [])).name ms)) full_share a' b o)))
 
--- ---- of an item whose borrow is open, one part is shared and another lent
+-- ---- an item whose borrow is open, of which one part is shared and another lent
 module _ (I : SemTy) (K V : RattleType) (LK : Laws K) {M : Type 1} {𝓤 : Ura M} (𝓛 : Logic 𝓤) (κ : Lft) (q : Share) (b o ok ov : ℕ) (γ : GName) (ℓ : Lifetime) (long : Incl κ K.lives) (x : K.Denot) (y : V.Denot)
     (put : V.Denot → I.rep) (Rest : SProp 𝓤) where
   open 𝓛 use {H, A}

@@ -1,4 +1,4 @@
--- Columns whose items stand between two cells.
+-- Rows whose items are in a range of cells.
 use Rattle.std.specs.Prelude.{◌≡◌, ℕ, ◌-◌, ◌≤◌, true, false, List, ◌++◌, map, length, replicate, Option, is_some}
 use Rattle.starlark_columns.specs.Cells.{items_of}
 

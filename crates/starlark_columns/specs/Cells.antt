@@ -1,4 +1,4 @@
--- The words on a row of cells: each is empty, or holds an item.
+-- Rows of cells, each of which is empty or holds an item.
 use Rattle.std.specs.Prelude.{◌≡◌, ℕ, ◌-◌, ◌≤◌, List, [], ◌∷◌, ◌++◌, map, length, take, drop, replicate, get_or, slice_range, Option, Some, None}
 
 module _ {X : Type 0} where
@@ -18,16 +18,17 @@ module _ {X : Type 0} where
   abbrev pub AreEmpty : List (Option X) → ℕ → ℕ → Type 0
   AreEmpty cs from to = (from ≤ to) × (to ≤ length cs) × (slice_range cs from to ≡ empties (to - from))
 
-  -- the items that are there, in their order
+  -- the items of the full cells, in their order
   abbrev pub items_of : List (Option X) → List X
   items_of [] = []
   items_of (None ∷ cs) = items_of cs
   items_of (Some x ∷ cs) = x ∷ items_of cs
 
-  -- the row with ds in the cells from `from` up to `to`
+  -- the row with the cells ds in place of those from `from` up to `to`
   abbrev pub with_range : List (Option X) → ℕ → ℕ → List (Option X) → List (Option X)
   with_range cs from to ds = take from cs ++ (ds ++ drop to cs)
 
-  -- the cells from `from` up to `end` stand `from - to` cells lower, from `to` on, and leave as many empty
+  -- the row with the cells from `from` up to `end` moved down by `from - to`, to the cells from `to` on; the cells that
+  -- they leave are empty
   abbrev pub moved_down : List (Option X) → ℕ → ℕ → ℕ → List (Option X)
   moved_down cs from end to = with_range cs to end (slice_range cs from end ++ empties (from - to))

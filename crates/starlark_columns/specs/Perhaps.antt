@@ -1,4 +1,4 @@
--- What makes a `Perhaps` of its parts. No public clause cites this module.
+-- The parts of a `Perhaps`. No public clause cites this module.
 use Rattle.std.specs.Prelude.{◌≡◌, List, [], ◌∷◌, Option, Some, None}
 use Rattle.std.specs.declared.alloc.Global.{Global}
 use denote.RawPtr.{Ptr, null_ptr, InBlock, Testable}
@@ -8,7 +8,7 @@ use Rattle.starlark_columns.specs.declared.row.Row.{Row}
 use Rattle.starlark_columns.specs.Block.{IsClaimTo}
 
 module _ {X : Type 0} where
-  -- the address and the claim are those of cells at q, which are one item; or there are none, and the address is null
+  -- either the address and the claim are those of one full cell at q, or there is no cell and the address is null
   abbrev pub IsItemAt : Ptr → Ptr → Claim X Global → List (Option X) → Type 0
   IsItemAt p q claim [] = (p ≡ null_ptr) × (claim.count ≡ 0)
   IsItemAt p q claim (None ∷ cs) = ⊥

@@ -1,4 +1,4 @@
-//! Rows whose items stand between two cells, as a walk leaves them that takes from either end.
+//! Rows whose items are in a range of cells, for an iterator that takes items from either end.
 ghost use Rattle.std.specs.Prelude.{◌≡◌, ◌+◌, ◌<◌, [], ◌∷◌, ◌++◌, length};
 ghost use Rattle.starlark_columns.specs.Cells.{items_of};
 ghost use Rattle.starlark_columns.specs.Block.{LiesAt};
@@ -9,9 +9,9 @@ use crate::block::Spot;
 use crate::row::Row;
 
 impl<T> Row<T> {
-    /// The items stand at the cells from `from` up to `to`. Takes the first one out.
+    /// Removes and returns the first item. The items are in the cells from `from` up to `to`.
     #[inline]
-    #[tactic(auto, using(crate::proofs::Betweens::first_filled))]
+    #[tactic(auto, using(crate::proofs::ItemsBetween::first_filled))]
     pub fn take_first_between(&mut self, spot: Spot<T>, from: usize, to: usize) -> T
         requires spot { LiesAt spot self.old }
         requires between { IsBetween self.old.cells from to }
@@ -24,7 +24,7 @@ impl<T> Row<T> {
         self.take(spot, from)
     }
 
-    /// The items stand at the cells from `from` to `last`. Takes the last one out.
+    /// Removes and returns the last item. The items are in the cells from `from` to `last`.
     #[inline]
     pub fn take_last_between(&mut self, spot: Spot<T>, from: usize, last: usize) -> T
         requires spot { LiesAt spot self.old }
@@ -40,8 +40,8 @@ impl<T> Row<T> {
 }
 
 impl<T: Drop> Row<T> {
-    /// The items stand at the cells from `from` up to `to`. Drops them all.
-    #[tactic(auto, using(crate::proofs::Fronts::front_empties, crate::proofs::Betweens::none_between))]
+    /// Drops all items, which are in the cells from `from` up to `to`.
+    #[tactic(auto, using(crate::proofs::ItemsAtFront::front_empties, crate::proofs::ItemsBetween::none_between))]
     pub fn drop_between(&mut self, spot: Spot<T>, from: usize, to: usize)
         requires spot { LiesAt spot self.old }
         requires between { IsBetween self.old.cells from to }

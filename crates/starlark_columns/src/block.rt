@@ -1,4 +1,4 @@
-//! Pointers to blocks: where rows of cells lie, how their blocks are asked for, and the right to give one back.
+//! Blocks of memory: where rows of cells lie, how a block is allocated, and the right to deallocate it.
 ghost use Rattle.std.specs.Prelude.{◌≡◌, ℕ, ◌+◌, ◌*◌, ◌^◌, ◌<◌, IfOk, MatchBool};
 ghost use Rattle.std.specs.Mem.{type_size};
 ghost use Rattle.std.specs.Vec.Ownership.{FitsInBlock};
@@ -17,7 +17,7 @@ use std::marker::{Model, PhantomData, Send, Sync};
 use std::mem::{align_of, size_of};
 use std::ptr::{NonNull, null};
 
-/// Where the first cell of a row lies. It owns nothing.
+/// The address of the first cell of a row. It owns nothing.
 pub struct Address<T> {
     pub(crate) at: *const T,
 }
@@ -38,7 +38,8 @@ unsafe impl<T> Send for Address<T> {}
 
 unsafe impl<T> Sync for Address<T> {}
 
-/// Where the block of two rows begins, at the first cell of one, and how many cells each has. It owns nothing.
+/// The address of a block of two rows, which is that of the first cell of one of them, and how many cells each row has.
+/// It owns nothing.
 pub struct Spot<T> {
     pub address: Address<T>,
     pub count: usize,
@@ -60,8 +61,8 @@ unsafe impl<T> Send for Spot<T> {}
 
 unsafe impl<T> Sync for Spot<T> {}
 
-// The right to give the block of `count` cells back. Where the cells take no bytes, it is a right to nothing. It takes
-// no bytes.
+// The right to deallocate the block of `count` cells. If the cells take no bytes, there is no block, and it is a right
+// to nothing. It takes no bytes itself.
 pub struct Claim<T, A: Allocator> {
     mark: PhantomData<*const (T, A)>,
     ghost at: { Ptr },
@@ -77,11 +78,12 @@ impl<T, A: Allocator> Model for Claim<T, A> {
 
 unsafe impl<T, A: Allocator + Send> Send for Claim<T, A> {}
 
-// A `&` to it lends nothing.
+// A `&` to it lends nothing, so threads may share it.
 unsafe impl<T, A: Allocator> Sync for Claim<T, A> {}
 
-// The right to give back the one block with `count` cells at `firsts` and as many at `seconds`, which lie as far apart
-// as the count says. Where the cells take no bytes, it is a right to nothing. It takes no bytes.
+// The right to deallocate the block with `count` cells at `firsts` and `count` cells at `seconds`. The count determines
+// how far these are apart. If the cells take no bytes, there is no block, and it is a right to nothing. It takes no
+// bytes itself.
 pub struct PairClaim<T, U, A: Allocator> {
     mark: PhantomData<*const (T, U, A)>,
     pub ghost firsts: { Ptr },
@@ -98,18 +100,17 @@ impl<T, U, A: Allocator> Model for PairClaim<T, U, A> {
 
 unsafe impl<T, U, A: Allocator + Send> Send for PairClaim<T, U, A> {}
 
-// A `&` to it lends nothing.
+// A `&` to it lends nothing, so threads may share it.
 unsafe impl<T, U, A: Allocator> Sync for PairClaim<T, U, A> {}
 
 impl<T, U> PairClaim<T, U, Global> {
-    // Says where the rows lie. It does nothing.
+    // Gives proofs the addresses of both rows, which the right determines. It does nothing when it runs.
     #[inline]
     pub(crate) fn told(&self)
         ensures { InBlock self.now.firsts × (self.now.seconds ≡ behind T.row U.row self.now.count self.now.firsts) }
     {}
 }
 
-// The address so many bytes further on.
 #[inline]
 pub(crate) fn moved<T, U>(first: Address<T>, offset: usize) -> Address<U>
     requires { InBlock first.at }
@@ -119,7 +120,6 @@ pub(crate) fn moved<T, U>(first: Address<T>, offset: usize) -> Address<U>
     Address { at }
 }
 
-// The bytes of an item, as a number of its own.
 pub(crate) fn item_size<T>() -> usize
     ensures { result ≡ capped (type_size T.row) }
 {
@@ -132,7 +132,6 @@ pub(crate) fn item_align<T>() -> usize
     align_of::<T>()
 }
 
-// The address of no cell.
 #[inline]
 pub(crate) fn nowhere<T>() -> Address<T>
     ensures { result.at ≡ null_ptr }
@@ -140,7 +139,6 @@ pub(crate) fn nowhere<T>() -> Address<T>
     Address { at: null() }
 }
 
-// Whether it is the address of no cell.
 #[inline]
 pub(crate) fn is_nowhere<T>(address: Address<T>) -> bool
     requires { Testable address.at }
@@ -149,7 +147,7 @@ pub(crate) fn is_nowhere<T>(address: Address<T>) -> bool
     NonNull::new(address.at.cast_mut()).is_none()
 }
 
-// Cells that take no bytes lie anywhere: here where an array of no items does, so that their address is aligned.
+// A row of `count` cells that take no bytes, at the address of an empty array, which is aligned.
 pub(crate) fn bare<T>(count: usize) -> (Address<T>, Row<T>)
     requires { count * type_size T.row ≡ 0 }
     ensures { (result.1.at ≡ result.0.at) × (result.1.cells ≡ empties count) }
@@ -159,7 +157,7 @@ pub(crate) fn bare<T>(count: usize) -> (Address<T>, Row<T>)
     (Address { at }, Row { mark: PhantomData })
 }
 
-// The claim of cells that take no bytes.
+// The right to nothing, for cells that take no bytes.
 pub(crate) fn bare_claim<T, A: Allocator>(
     _alloc: &A,
     address: Address<T>,
@@ -179,7 +177,8 @@ pub(crate) fn let_go<T>(row: Row<T>, claim: Claim<T, Global>)
     let Claim { mark: _ } = claim;
 }
 
-// The block of a right to `Global` begins where the right is to, so its address may be compared with null.
+// Gives proofs the fact that the address of a block of `Global` may be compared with null. The claim comes back
+// unchanged.
 #[inline]
 pub(crate) fn known<T>(claim: Claim<T, Global>) -> Claim<T, Global>
     requires { 0 < claim.count * type_size T.row }
@@ -231,8 +230,8 @@ pub(crate) fn deallocate<T, A: Allocator>(
     }
 }
 
-// Two rows of cells that take no bytes, and a right to nothing. They lie where an array of no pairs does, so that the
-// addresses of both are aligned.
+// Two rows of cells that take no bytes, and a right to nothing. They are at the address of an empty array of pairs,
+// which is aligned for both.
 pub(crate) fn bare_pair<T, U, A: Allocator>(
     _alloc: &A,
     count: usize,
@@ -259,7 +258,8 @@ pub(crate) fn let_go_pair<T, U>(firsts: Row<T>, seconds: Row<U>, claim: PairClai
     let PairClaim { mark: _ } = claim;
 }
 
-// One block for two rows. The second begins where it is reckoned to from the count.
+// Allocates one block for two rows. The address of the second row is computed from that of the first and from the
+// count.
 pub(crate) fn allocate_pair<T, U, A: Allocator>(
     alloc: &A,
     count: usize,

@@ -1,4 +1,4 @@
-//! `Bytes`, bytes in a block of their own, of which no more is kept than the address.
+//! `Bytes`, bytes in a block of their own, of which only the address is stored.
 ghost use Rattle.std.specs.Prelude.{◌≡◌, ◌<◌, [], length, replicate, IfOk};
 ghost use Rattle.std.specs.Borrow.{sem};
 ghost use Rattle.starlark_columns.specs.Cells.{empties};
@@ -9,13 +9,14 @@ use std::alloc::{AllocError, Global};
 use std::marker::Model;
 use std_alloc::room::may_hold;
 
-/// Bytes in one block of memory, or none and no memory. It takes the 8 bytes of an address: each call is told how many
-/// there are, which the type above knows. It is given back by `give_back`, and seen as the bytes.
+/// Bytes in one block of memory; without bytes there is no block. It is stored as an address of 8 bytes: the type above
+/// stores the number of bytes, and passes it to each call. `give_back` deallocates the block. The model is the list of
+/// the bytes.
 pub struct Bytes {
     address: Address<u8>,
     row: Row<u8>,
     claim: Claim<u8, Global>,
-    // Where the block comes from.
+    // The allocator of the block.
     alloc: Global,
 }
 
@@ -34,7 +35,7 @@ impl Model for Bytes {
 impl Bytes {
     ghost use Rattle.starlark_columns.specs.Lend.{lends_bytes};
 
-    /// No bytes, without memory.
+    /// No bytes, which take no memory.
     #[inline]
     pub fn none(alloc: Global) -> Bytes
         ensures { result ≡ [] }
@@ -49,7 +50,7 @@ impl Bytes {
         }
     }
 
-    /// So many times one byte. It is refused where there is no memory for them.
+    /// The byte `byte`, `count` times. It is refused if there is no memory.
     pub fn filled(alloc: Global, count: usize, byte: u8) -> Result<Bytes, AllocError>
         requires { 0 < count }
         ensures { IfOk result (λ b. b ≡ replicate count byte) }
@@ -70,7 +71,7 @@ impl Bytes {
         })
     }
 
-    /// Where the memory comes from.
+    /// The allocator of the block.
     #[inline]
     pub fn allocator(&self) -> Global {
         self.alloc
@@ -85,7 +86,7 @@ impl Bytes {
         self.row.items(self.address, count)
     }
 
-    /// The bytes, to be written. They end as what is left in them.
+    /// The bytes, mutably.
     #[inline]
     pub fn as_mut_slice(&mut self, count: usize) -> &mut [u8]
         requires { count ≡ length self.old }
@@ -95,7 +96,7 @@ impl Bytes {
         self.row.items_mut(self.address, count)
     }
 
-    /// Gives the memory back.
+    /// Deallocates the block.
     #[inline]
     pub fn give_back(self, count: usize)
         requires { count ≡ length self }
@@ -115,9 +116,9 @@ impl Bytes {
     }
 }
 
-// The cells without their bytes.
+// The row with all cells emptied, so that its block can be deallocated.
 #[inline]
-#[tactic(auto, using(crate::proofs::Fronts::all_emptied))]
+#[tactic(auto, using(crate::proofs::ItemsAtFront::all_emptied))]
 fn emptied(mut row: Row<u8>, address: Address<u8>, count: usize) -> Row<u8>
     requires { (address.at ≡ row.at) × (count ≡ length row.cells) }
     ensures { (result.at ≡ row.at) × (result.cells ≡ empties count) }

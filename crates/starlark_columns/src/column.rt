@@ -1,4 +1,4 @@
-//! `Column`, a row of cells in one block of memory, or in none where they take no bytes.
+//! `Column`, a row of cells in one block of memory, or without a block if they take no bytes.
 ghost use Rattle.std.specs.Prelude.{◌≡◌, ◌+◌, ◌-◌, ◌*◌, ◌^◌, ◌<◌, ◌≤◌, [], ◌++◌, Some, None, map, length, take, drop, get_or, slice_set, slice_range, IfOk, IsOk};
 ghost use Rattle.std.specs.Borrow.{sem};
 ghost use Rattle.std.specs.Mem.{type_size};
@@ -14,9 +14,9 @@ use std::alloc::{AllocError, Global};
 use std::marker::{Model, PhantomData};
 use std_alloc::room::may_hold;
 
-/// A row of cells, each empty or with an item. Nothing at run time says which: the type above knows. A column is given
-/// back, with every cell empty, by `give_back`. It is seen as the list of its cells, and each call says the whole row
-/// afterwards.
+/// A row of cells, each empty or with an item. Nothing at run time says which cells are full: the type above has to
+/// know it. `give_back` gives the memory back, when every cell is empty. The model is the list of the cells, and the
+/// contract of each call says what the whole list is afterwards.
 pub struct Column<T> {
     address: Address<T>,
     count: usize,
@@ -35,10 +35,10 @@ impl<T> Model for Column<T> {
     ghost invariant = { λ c. IsColumn c.address c.count c.row c.claim };
 }
 
-// Making, and giving back
+// Construction and deallocation
 
 impl<T> Column<T> {
-    /// A column of no cells, without memory.
+    /// A column without cells, which takes no memory.
     #[inline]
     pub fn new(alloc: Global) -> Column<T>
         ensures cells { result ≡ [] }
@@ -47,7 +47,7 @@ impl<T> Column<T> {
         Column::without_block(alloc, 0)
     }
 
-    // A column of cells that take no bytes, for which no block was asked.
+    // A column of cells that take no bytes, which has no block.
     #[inline]
     fn without_block(alloc: Global, count: usize) -> Column<T>
         requires { count * type_size T.row ≡ 0 }
@@ -63,8 +63,8 @@ impl<T> Column<T> {
         }
     }
 
-    /// A column of `count` empty cells. It is refused where there is no memory, or where that many items cannot be
-    /// addressed; cells that take no bytes never are, and ask for no memory.
+    /// A column of `count` empty cells. It is refused if there is no memory, or if that many items cannot be addressed.
+    /// Cells that take no bytes are never refused, and need no memory.
     pub fn with_cells(alloc: Global, count: usize) -> Result<Column<T>, AllocError>
         ensures made { IfOk result (λ c. c ≡ empties count) }
         ensures fits { IfOk result (λ _. count * type_size T.row < 2 ^ 63) }
@@ -85,7 +85,7 @@ impl<T> Column<T> {
         })
     }
 
-    /// Gives the memory back. Every cell is to be empty, so that no item is forgotten.
+    /// Gives the memory back. Every cell must be empty, so that no item is forgotten.
     #[inline]
     pub fn give_back(self, alloc: Global)
         requires { self ≡ empties (length self) }
@@ -103,7 +103,7 @@ impl<T> Column<T> {
         }
     }
 
-    /// How many cells there are.
+    /// The number of cells.
     #[inline]
     pub fn cells(&self) -> usize
         ensures cells { result ≡ length self.now }
@@ -118,7 +118,7 @@ impl<T> Column<T> {
 impl<T> Column<T> {
     ghost use Rattle.starlark_columns.specs.Lend.{lends_column_item};
 
-    /// Puts an item in an empty cell.
+    /// Stores an item in an empty cell.
     #[inline]
     pub fn write(&mut self, index: usize, item: T)
         requires { (index < length self.old) × (get_or self.old index None ≡ None) }
@@ -156,7 +156,7 @@ impl<T> Column<T> {
         self.row.get(self.address, count, index)
     }
 
-    /// The item of a full cell, to be written. The cell ends with what is left in it, and all else stays.
+    /// The item of a full cell, mutably. All other cells stay.
     #[inline]
     #[tactic(auto, using(std::proofs::lemmas::Grind::common_steps))]
     pub fn get_mut(&mut self, index: usize) -> &mut T
@@ -173,8 +173,8 @@ impl<T> Column<T> {
 impl<T> Column<T> {
     ghost use Rattle.starlark_columns.specs.Loan.{cells_follow};
 
-    /// The right to write the items, which a walk takes one by one. Each full cell ends with what is left there, with
-    /// what `P` keeps of its item; empty cells stay empty.
+    /// The right to write the items, from which an iterator takes them one by one. Each full cell ends with the item
+    /// that is written there, except for the part that `P` keeps, which does not change. Empty cells stay empty.
     #[inline]
     pub fn lend<P: Keeps<T>>(&mut self) -> Loan<'_, T, P>
         ensures* writes_back { sem 𝓛 (cells_follow T.row P.kept self.entry result.tie) }

@@ -1,4 +1,4 @@
-//! Rows whose items stand at the front. Each call is told how many there are, so that two rows share one length.
+//! Rows whose items are in the first cells. The length is passed to each call, so that two rows share one length.
 ghost use Rattle.std.specs.Prelude.{◌≡◌, ◌+◌, ◌-◌, ◌<◌, ◌≤◌, [], ◌∷◌, ◌++◌, Some, length, take, reverse, slice_get, IsOk, OnOk, OnErr};
 ghost use Rattle.std.specs.Borrow.{sem};
 ghost use Rattle.std.specs.List.{remove, AllZip};
@@ -14,9 +14,9 @@ use std::slice;
 impl<T> Row<T> {
     ghost use Rattle.starlark_columns.specs.Lend.{lends_front, lends_item};
 
-    /// The first `len` cells, which hold all the items.
+    /// The items, which are in the first `len` cells.
     #[inline]
-    #[tactic(auto, using(crate::proofs::Fronts::front_full, crate::proofs::Fronts::front_items))]
+    #[tactic(auto, using(crate::proofs::ItemsAtFront::front_full, crate::proofs::ItemsAtFront::front_items))]
     pub fn items(&self, address: Address<T>, len: usize) -> &[T]
         requires at { address.at ≡ self.now.at }
         requires front { IsFront self.now.cells len }
@@ -25,7 +25,7 @@ impl<T> Row<T> {
         self.slice(address, 0, len)
     }
 
-    /// The first `len` cells, which hold all the items, to be written. They end with what is left in them.
+    /// The items, which are in the first `len` cells, mutably.
     #[inline]
     pub fn items_mut(&mut self, address: Address<T>, len: usize) -> &mut [T]
         requires at { address.at ≡ self.old.at }
@@ -47,7 +47,7 @@ impl<T> Row<T> {
         self.get(address, len, index)
     }
 
-    /// The item at this index, to be written. The row ends with what is left in it, and all else stays.
+    /// The item at this index, mutably. All other items stay.
     #[inline]
     pub fn item_mut(&mut self, address: Address<T>, len: usize, index: usize) -> &mut T
         requires at { address.at ≡ self.old.at }
@@ -59,9 +59,9 @@ impl<T> Row<T> {
         self.get_mut(address, index)
     }
 
-    /// Puts an item behind the `len` that are there. A cell is to be left.
+    /// Appends an item to the `len` that are there. The row must have an empty cell.
     #[inline]
-    #[tactic(auto, using(crate::proofs::Fronts::front_free))]
+    #[tactic(auto, using(crate::proofs::ItemsAtFront::front_free))]
     pub fn push_last(&mut self, spot: Spot<T>, len: usize, item: T)
         requires spot { LiesAt spot self.old }
         requires front { IsFront self.old.cells len }
@@ -74,9 +74,9 @@ impl<T> Row<T> {
         self.write(spot, len, item);
     }
 
-    /// Takes the last item out, which has `last` in front of it.
+    /// Removes and returns the last item, which is at the index `last`.
     #[inline]
-    #[tactic(auto, using(crate::proofs::Fronts::front_filled))]
+    #[tactic(auto, using(crate::proofs::ItemsAtFront::front_filled))]
     pub fn take_last(&mut self, spot: Spot<T>, last: usize) -> T
         requires spot { LiesAt spot self.old }
         requires front { IsFront self.old.cells (last + 1) }
@@ -88,9 +88,9 @@ impl<T> Row<T> {
         self.take(spot, last)
     }
 
-    /// Takes the item at `index` out. Those behind it move up by one cell.
+    /// Removes and returns the item at `index`. Each later item moves one cell down.
     #[inline]
-    #[tactic(auto, using(crate::proofs::Fronts::gap_empty))]
+    #[tactic(auto, using(crate::proofs::ItemsAtFront::gap_empty))]
     pub fn remove_at(&mut self, spot: Spot<T>, len: usize, index: usize) -> T
         requires spot { LiesAt spot self.old }
         requires front { IsFront self.old.cells len }
@@ -106,7 +106,7 @@ impl<T> Row<T> {
         item
     }
 
-    /// Moves all `len` items to the cells of `to`, which are empty, and enough. None is left here.
+    /// Moves all `len` items to the row `to`, whose cells must be empty and at least as many. No item is left here.
     #[inline]
     pub fn move_all(&mut self, spot: Spot<T>, len: usize, to: &mut Row<T>, to_spot: Spot<T>)
         requires spot { LiesAt spot self.old }
@@ -129,9 +129,9 @@ impl<T> Row<T> {
         }
     }
 
-    /// Turns the items round.
+    /// Reverses the order of the items.
     #[inline]
-    #[tactic(auto, using(crate::proofs::Fronts::all_written))]
+    #[tactic(auto, using(crate::proofs::ItemsAtFront::all_written))]
     pub fn turn_round(&mut self, address: Address<T>, len: usize)
         requires at { address.at ≡ self.old.at }
         requires front { IsFront self.old.cells len }
@@ -145,8 +145,8 @@ impl<T> Row<T> {
 }
 
 impl<T: Drop> Row<T> {
-    /// Drops the items from `to` on, the last first.
-    #[tactic(auto, using(crate::proofs::Fronts::one_fewer))]
+    /// Drops the items from the index `to` on, the last one first.
+    #[tactic(auto, using(crate::proofs::ItemsAtFront::one_fewer))]
     pub fn truncate(&mut self, spot: Spot<T>, len: usize, to: usize)
         requires spot { LiesAt spot self.old }
         requires front { IsFront self.old.cells len }
@@ -165,8 +165,8 @@ impl<T: Drop> Row<T> {
 }
 
 impl<T: Clone + Drop> Row<T> {
-    /// Clones of all `len` items, in the places of `to`, which are empty. Where memory is refused to a clone, the
-    /// clones made so far are dropped, and `to` is empty as before.
+    /// Stores clones of all `len` items in the row `to`, whose cells must be empty. If a clone is refused, the clones
+    /// that were made are dropped, and `to` is empty again.
     pub fn clone_items(
         &self,
         address: Address<T>,

@@ -1,4 +1,5 @@
-//! How two rows lie in one block: the first from its start on, and the second behind it, where its alignment allows.
+//! The layout of a block of two rows: the first row is at its start, and the second behind the first, at the next
+//! address with its alignment.
 ghost use Rattle.std.specs.Prelude.{◌≡◌, ◌+◌, ◌-◌, ◌*◌, ◌%◌, ◌^◌, ◌<◌, min};
 ghost use Rattle.core.specs.Allocator.{HasLayout};
 ghost use prog.Memory.{pad};
@@ -6,7 +7,7 @@ ghost use Rattle.starlark_columns.specs.Pair.{pair_ty, skipped};
 
 use crate::block::{item_align, item_size};
 
-// The block of two rows of so many cells. Numbers past the greatest `usize` are cut there.
+// The size and the alignment of a block of two rows. Numbers above the greatest `usize` are capped at it.
 #[derive(Drop)]
 pub(crate) struct Layout {
     pub size: usize,
@@ -28,8 +29,8 @@ pub(crate) fn laid_out<T, U>(count: usize) -> Layout
     Layout { size, align }
 }
 
-// How far behind the first row the second begins. In a block no number is past the greatest `usize`, so that nothing is
-// tested here.
+// The offset of the second row in bytes. There is no test, since in an allocated block no number is above the greatest
+// `usize`.
 #[inline]
 #[tactic(auto, using(crate::proofs::Layouts::some_align))]
 pub(crate) fn skip<T, U>(count: usize) -> usize
@@ -38,7 +39,7 @@ pub(crate) fn skip<T, U>(count: usize) -> usize
     wrapped_up(count.wrapping_mul(item_size::<T>()), item_align::<U>())
 }
 
-// The least multiple of `align` that is not below.
+// The least multiple of `align` that is not below `bytes`, capped at the greatest `usize`.
 fn rounded_up(bytes: usize, align: usize) -> usize
     requires { 0 < align }
     ensures { result ≡ min (bytes + pad align bytes) (2 ^ 64 - 1) }
@@ -46,7 +47,7 @@ fn rounded_up(bytes: usize, align: usize) -> usize
     bytes.saturating_add((align - bytes % align) % align)
 }
 
-// The least multiple of `align` that is not below, in 64 bits and without a test.
+// The least multiple of `align` that is not below `bytes`, modulo 2^64, so that there is no test.
 #[inline]
 fn wrapped_up(bytes: usize, align: usize) -> usize
     requires { 0 < align }

@@ -1,5 +1,5 @@
-//! Raw memory: rows of cells, each empty or with an item, rows of bytes, and a pointer that may be to nothing. All raw
-//! memory of the library is here.
+//! Raw memory: rows of cells, each empty or with an item; bytes; and a pointer that may be null. No other crate of the
+//! library uses raw memory.
 #![tactic(auto)]
 
 pub mod between;

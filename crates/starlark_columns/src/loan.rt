@@ -1,4 +1,4 @@
-//! The right to write the items of cells that a walk has still to reach. Any of the cells may be empty.
+//! The right to write the items of the cells that an iterator has not reached yet. Any of the cells may be empty.
 ghost use Rattle.std.specs.Prelude.{◌≡◌, ℕ, ◌+◌, ◌<◌, List, ◌∷◌, length, drop, get_or, Option, Some, None, refl};
 ghost use Rattle.std.specs.Option.{option_map};
 ghost use Rattle.std.specs.Borrow.{GName};
@@ -8,9 +8,9 @@ ghost use Rattle.starlark_columns.specs.Loan.{lent_from};
 
 use std::marker::{Model, PhantomData};
 
-/// What of an item stays as it is while the item is lent.
+/// Which part of an item stays unchanged while the item is lent.
 pub trait Keeps<T> {
-    // what is written for an item, with what stays of the item itself
+    // The second item, with the part that stays taken from the first.
     ghost kept: { T → T → T };
 
     ghost itself: { (x : T) → kept x x ≡ x };
@@ -34,9 +34,9 @@ impl<A, K, V> Keeps<(A, (K, V))> for AllButLast {
     ghost itself = { λ x. refl };
 }
 
-/// The right to the cells at `start` that are still to be taken: those from the `from`-th on, `rest`. Which of them
-/// are full is frozen, and so is what `P` keeps of each item. `name` is the loan of these, and `tie` the loan of all,
-/// which the column follows.
+/// The right to write the cells that are still to be taken: `rest`, which begin at the index `from` of the cells at
+/// `start`. Which of them are full does not change, nor does the part of each item that `P` keeps. `name` is the name
+/// of the loan of these cells. `tie` is the name of the loan of all cells, which determines what the column ends as.
 #[derive(Drop)]
 pub struct Loan<'a, T, P: Keeps<T>> {
     pub(crate) start: *mut T,
@@ -52,7 +52,7 @@ impl<'a, T, P: Keeps<T>> Model for Loan<'a, T, P> {
 }
 
 impl<'a, T, P: Keeps<T>> Loan<'a, T, P> {
-    /// Passes over the next cell, which stays as it is.
+    /// Skips the next cell, which stays as it is.
     #[inline]
     pub fn skip(&mut self)
         requires { 0 < length self.old.rest }
@@ -63,7 +63,7 @@ impl<'a, T, P: Keeps<T>> Loan<'a, T, P> {
 }
 
 impl<'a, A, B> Loan<'a, (A, B), First> {
-    /// The pair of the next cell, its second part to be written. The cell is full.
+    /// Takes the pair of the next cell, which must be full, with its second part mutable.
     #[inline]
     pub fn take_pair(&mut self, index: usize) -> (&'a A, &'a mut B)
         requires next { index ≡ self.old.from }
@@ -80,7 +80,7 @@ impl<'a, A, B> Loan<'a, (A, B), First> {
 }
 
 impl<'a, A, K, V> Loan<'a, (A, (K, V)), AllButLast> {
-    /// The key and the value of the entry in the next cell, the value to be written. The cell is full.
+    /// Takes the key and the value of the entry in the next cell, which must be full, with the value mutable.
     #[inline]
     pub fn take_value(&mut self, index: usize) -> (&'a K, &'a mut V)
         requires next { index ≡ self.old.from }

@@ -1,5 +1,6 @@
-//! Two rows of as many cells in one block of memory, so that they are had, and given back, by one call of the allocator.
-//! The first row begins where the block does. Where the second begins is reckoned, so that one address does for both.
+//! Two rows with the same number of cells in one block of memory, so that one call of the allocator allocates both, and
+//! one deallocates both. The first row is at the start of the block. The address of the second row is computed, so that
+//! one stored address serves both.
 ghost use Rattle.std.specs.Prelude.{◌≡◌, ◌↔◌, ◌+◌, ◌*◌, ◌^◌, ◌<◌, [], length, IfOk, IsOk, IsTrue};
 ghost use Rattle.std.specs.Mem.{type_size};
 ghost use Rattle.starlark_columns.specs.Cells.{empties, items_of};
@@ -16,11 +17,11 @@ use crate::layout::{laid_out, skip};
 use crate::row::Row;
 use std::alloc::{AllocError, Global};
 
-/// The right to give the block of two rows back. It takes no bytes.
+/// The right to deallocate the block of two rows. It takes no bytes.
 pub type Block<A, B> = PairClaim<A, B, Global>;
 
 impl<A, B> PairClaim<A, B, Global> {
-    /// Where the second row lies, from where the block does, and how many cells it has: as many as the first.
+    /// The spot of the second row, from that of the block. Both rows have the same number of cells.
     #[inline]
     pub fn second(&self, spot: Spot<A>) -> Spot<B>
         requires { IsSpotOf spot self.now }
@@ -35,7 +36,7 @@ impl<A, B> PairClaim<A, B, Global> {
     }
 }
 
-/// Where the second row lies, without the right, where it is known that the spot is in a block.
+/// The address of the second row, computed without the right to the block. The spot must be in a block.
 #[inline]
 pub fn second_at<A, B>(spot: Spot<A>) -> Address<B>
     requires { InBlock spot.address.at }
@@ -44,9 +45,9 @@ pub fn second_at<A, B>(spot: Spot<A>) -> Address<B>
     moved(spot.address, skip::<A, B>(spot.count))
 }
 
-/// Two rows of `count` empty cells each in one block of memory, where it begins, and the right to give it back. They are
-/// refused where there is no memory, or where that many items cannot be addressed; cells that take no bytes never are,
-/// and ask for no memory.
+/// Two rows of `count` empty cells each in one block of memory, the spot of the block, and the right to deallocate it.
+/// They are refused if there is no memory, or if that many items cannot be addressed. Cells that take no bytes are
+/// never refused, and need no memory.
 pub fn with_rows<A, B>(
     alloc: Global,
     count: usize,
@@ -74,7 +75,7 @@ pub fn with_rows<A, B>(
     Ok((Spot { address, count }, firsts, seconds, block))
 }
 
-/// Two rows of no cells, without memory.
+/// Two rows without cells, which take no memory.
 #[inline]
 pub fn no_rows<A, B>(alloc: Global) -> (Spot<A>, Row<A>, Row<B>, Block<A, B>)
     ensures fronts { IsFront result.1.cells 0 × IsFront result.2.cells 0 }
@@ -85,9 +86,9 @@ pub fn no_rows<A, B>(alloc: Global) -> (Spot<A>, Row<A>, Row<B>, Block<A, B>)
     bare_rows(alloc, 0)
 }
 
-/// Gives the block back. It is that of both rows, and begins at the spot; no item is left in either.
+/// Deallocates the block of both rows, which begins at the spot. Every cell of both rows must be empty.
 #[inline]
-#[tactic(auto, using(crate::proofs::Fronts::none_at_front))]
+#[tactic(auto, using(crate::proofs::ItemsAtFront::none_at_front))]
 pub fn give_back<A, B>(
     alloc: Global,
     spot: Spot<A>,
@@ -115,14 +116,14 @@ pub fn give_back<A, B>(
     }
 }
 
-// Whether so many cells of both rows take no bytes.
+// Whether `count` cells of both rows take no bytes.
 fn weightless<A, B>(count: usize) -> bool
     ensures { IsTrue result ↔ (count * (type_size A.row + type_size B.row) ≡ 0) }
 {
     count == 0 || (item_size::<A>() == 0 && item_size::<B>() == 0)
 }
 
-// Rows of cells that take no bytes.
+// Two rows of cells that take no bytes, which have no block.
 fn bare_rows<A, B>(alloc: Global, count: usize) -> (Spot<A>, Row<A>, Row<B>, Block<A, B>)
     requires { count * (type_size A.row + type_size B.row) ≡ 0 }
     ensures fronts { IsFront result.1.cells 0 × IsFront result.2.cells 0 }

@@ -1,4 +1,4 @@
-//! `Perhaps`, an item in a block of its own, or none: one pointer, which is null where there is none.
+//! `Perhaps`, an item in a block of its own, or none: one pointer, which is null if there is none.
 ghost use Rattle.std.specs.Prelude.{◌≡◌, Some, None, false, is_none, IfOk};
 ghost use Rattle.std.specs.Borrow.{sem};
 ghost use Rattle.std.specs.Option.{option_copied, option_copied_mut};
@@ -12,13 +12,13 @@ use std::alloc::{AllocError, Global};
 use std::marker::Model;
 use std_alloc::room::may_hold;
 
-/// An item in a block of its own, or none. It takes the 8 bytes of a pointer, where `Option<Box<T>>` takes 16. It is seen
-/// as the item, where there is one. Dropped, it drops the item and gives the block back.
+/// An item in a block of its own, or none. It takes the 8 bytes of a pointer, while `Option<Box<T>>` takes 16. The
+/// model is an `Option` of the item. When it is dropped, the item is dropped and its block is deallocated.
 pub struct Perhaps<T> {
     address: Address<T>,
     row: Row<T>,
     claim: Claim<T, Global>,
-    // Where the block comes from.
+    // The allocator of the block.
     alloc: Global,
 }
 
@@ -36,7 +36,7 @@ impl<T> Model for Perhaps<T> {
 impl<T> Perhaps<T> {
     ghost use Rattle.starlark_columns.specs.Lend.{lends_some, lends_there};
 
-    /// No item, and no block: it asks for no memory.
+    /// No item and no block. It needs no memory.
     #[inline]
     pub fn none(alloc: Global) -> Perhaps<T>
         ensures { result ≡ None }
@@ -51,7 +51,7 @@ impl<T> Perhaps<T> {
         }
     }
 
-    /// The item, where there is one.
+    /// The item, if there is one.
     #[inline]
     pub fn get(&self) -> Option<&T>
         ensures { option_copied result ≡ self.now }
@@ -62,7 +62,7 @@ impl<T> Perhaps<T> {
         Some(self.row.get(self.address, 1, 0))
     }
 
-    /// The item, where there is one, to be written.
+    /// The item, if there is one, mutably.
     #[inline]
     pub fn get_mut(&mut self) -> Option<&mut T>
         ensures* writes_back { sem 𝓛 (lends_some T.row self.entry result) }
@@ -74,7 +74,7 @@ impl<T> Perhaps<T> {
         Some(self.there_mut())
     }
 
-    // The item, which is there, to be written.
+    // The item, which must be there, mutably.
     #[inline]
     fn there_mut(&mut self) -> &mut T
         requires { is_none self.old ≡ false }
@@ -84,7 +84,7 @@ impl<T> Perhaps<T> {
         self.row.get_mut(self.address, 0)
     }
 
-    // The item, taken out of its block, which is given back.
+    // Moves the item out of its block, and deallocates the block.
     fn into_inner(self) -> Option<T>
         ensures { result ≡ self }
     {
@@ -109,7 +109,8 @@ impl<T> Perhaps<T> {
 }
 
 impl<T: Drop> Perhaps<T> {
-    /// An item in a block of its own. Where memory is refused, and where the item takes no bytes, it is dropped.
+    /// An item in a block of its own. It is refused if there is no memory, and always if the item takes no bytes; the
+    /// item is then dropped.
     pub fn of(alloc: Global, item: T) -> Result<Perhaps<T>, AllocError>
         ensures { IfOk result (λ p. p ≡ Some item) }
     {

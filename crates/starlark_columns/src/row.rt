@@ -1,5 +1,5 @@
-//! `Row`, a row of cells without the right to give their block back: another row may lie in the same block. Items go in,
-//! out and along over the kit's slots, which know no cell without a value.
+//! `Row`, a row of cells without the right to deallocate their block, since another row may be in the same block. Items
+//! move through the kit's `Slots`, in which every slot holds a value.
 ghost use Rattle.std.specs.Prelude.{◌≡◌, ◌+◌, ◌-◌, ◌<◌, ◌≤◌, List, [], Option, Some, None, map, length, get_or, slice_set, slice_range};
 ghost use Rattle.std.specs.Borrow.{sem};
 ghost use denote.RawPtr.{Ptr};
@@ -12,10 +12,10 @@ use core::slots::Slots;
 use std::marker::{Model, PhantomData, Send, Sync};
 use std::slice;
 
-/// A row of cells, each empty or with an item. Nothing at run time says which: the type above knows. It is seen as its
-/// cells and where they lie, so that `pair::give_back` takes rows of one block alone. No call changes where they lie.
-/// It takes no bytes: a call that moves items is told the row's spot, and one that shows or lends them its address, so
-/// that two rows of a block share one address and one count.
+/// A row of cells, each empty or with an item. Nothing at run time says which cells are full: the type above has to
+/// know it. The model has the cells and their address, so that `pair::give_back` takes only rows of one block. No call
+/// changes the address. A row takes no bytes: each call that moves items is given the spot of the row, and each call
+/// that reads or lends them its address, so that two rows of a block share one address and one count.
 pub struct Row<T> {
     pub(crate) mark: PhantomData<*const T>,
     pub ghost at: { Ptr },
@@ -35,7 +35,7 @@ unsafe impl<T: Sync> Sync for Row<T> {}
 impl<T> Row<T> {
     ghost use Rattle.starlark_columns.specs.Slots.{cells_of, emptied};
 
-    // The cells as the kit's slots. The row is left with none.
+    // Moves the cells to the kit's `Slots`. The row is left without cells.
     pub(crate) fn open(&mut self, address: Address<T>, count: usize) -> Slots<T>
         requires any { T }
         requires cells { (address.at ≡ self.old.at) × (count ≡ length self.old.cells) }
@@ -46,7 +46,8 @@ impl<T> Row<T> {
         unsafe { Slots::from_raw_parts(address.at.cast_mut(), count) }
     }
 
-    // The way back. What the cells from `from` up to `to` hold is forgotten.
+    // Moves the slots back to the row. The cells from `from` up to `to` are empty afterwards; their items are
+    // forgotten, not dropped.
     pub(crate) fn close(&mut self, slots: Slots<T>, from: usize, to: usize)
         requires { (slots_ptr slots ≡ self.old.at) × (self.old.cells ≡ []) }
         ensures { (self.new.at ≡ self.old.at) × (self.new.cells ≡ emptied from to (cells_of (slots_items slots) (slots_filled slots))) }
@@ -59,9 +60,9 @@ impl<T> Row<T> {
     ghost use Rattle.starlark_columns.specs.Block.{LiesAt};
     ghost use Rattle.starlark_columns.specs.Lend.{lends_item};
 
-    /// Puts an item in an empty cell.
+    /// Stores an item in an empty cell.
     #[inline]
-    #[tactic(auto, using(crate::proofs::Slotting::set_row, crate::proofs::Slotting::none_emptied))]
+    #[tactic(auto, using(crate::proofs::CellsOfSlots::set_row, crate::proofs::CellsOfSlots::none_emptied))]
     pub fn write(&mut self, spot: Spot<T>, index: usize, item: T)
         requires spot { LiesAt spot self.old }
         requires empty { (index < length self.old.cells) × (get_or self.old.cells index None ≡ None) }
@@ -75,7 +76,7 @@ impl<T> Row<T> {
 
     /// Moves the item out of a full cell, which is then empty.
     #[inline]
-    #[tactic(auto, using(crate::proofs::Slotting::clear_row, crate::proofs::Slotting::none_emptied, crate::proofs::Slotting::at_item))]
+    #[tactic(auto, using(crate::proofs::CellsOfSlots::clear_row, crate::proofs::CellsOfSlots::none_emptied, crate::proofs::CellsOfSlots::at_item))]
     pub fn take(&mut self, spot: Spot<T>, index: usize) -> T
         requires spot { LiesAt spot self.old }
         requires filled { IsFilled self.old.cells index }
@@ -89,7 +90,7 @@ impl<T> Row<T> {
         item
     }
 
-    /// The item of a full cell, which is below `end`.
+    /// The item of a full cell, whose index is below `end`.
     #[inline]
     pub fn get(&self, address: Address<T>, end: usize, index: usize) -> &T
         requires at { address.at ≡ self.now.at }
@@ -100,7 +101,7 @@ impl<T> Row<T> {
         &self.slice(address, index, index + 1)[0]
     }
 
-    /// The item of a full cell, to be written. The cell ends with what is left in it, and all else stays.
+    /// The item of a full cell, mutably. All other cells stay.
     #[inline]
     pub fn get_mut(&mut self, address: Address<T>, index: usize) -> &mut T
         requires at { address.at ≡ self.old.at }
@@ -111,7 +112,7 @@ impl<T> Row<T> {
         unsafe { &mut *address.at.cast_mut().add(index) }
     }
 
-    /// The items from cell `from` up to cell `to`, which are all there.
+    /// The items of the cells from `from` up to `to`, which must all be full.
     #[inline]
     pub fn slice(&self, address: Address<T>, from: usize, to: usize) -> &[T]
         requires at { address.at ≡ self.now.at }
@@ -121,10 +122,10 @@ impl<T> Row<T> {
         unsafe { slice::from_raw_parts(address.at.add(from), to - from) }
     }
 
-    /// Moves the items from cell `from` up to cell `end` down, to the cells from `to` on, in their order. The cells
-    /// between are empty before, and as many behind the items are afterwards.
+    /// Moves the items of the cells from `from` up to `end` down to the cells from `to` on, in their order. The cells
+    /// from `to` up to `from` must be empty. Afterwards the last `from - to` cells below `end` are empty.
     #[inline]
-    #[tactic(auto, using(crate::proofs::Slotting::stays_down))]
+    #[tactic(auto, using(crate::proofs::CellsOfSlots::stays_down))]
     pub fn move_down(&mut self, spot: Spot<T>, from: usize, end: usize, to: usize)
         requires spot { LiesAt spot self.old }
         requires items { AreFilled self.old.cells from end }

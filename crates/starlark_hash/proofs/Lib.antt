@@ -1,4 +1,4 @@
-pub mod Promote
+pub mod Promotion
 pub mod HasherLemmas
 pub mod SameText
 pub mod PositionLemmas

@@ -1,4 +1,4 @@
--- What a search says of its answer.
+-- What a search by a closure finds.
 use Rattle.starlark_hash.proofs.Common.{◌≡◌, ℕ, zero, suc, ◌<◌, inl, inr, Bool, true, false, List, [], ◌∷◌, get_or, map, Option, Some, None, refl, sym, ap, ◌∙◌, arith, filter, slice_get, Contains, enumerate_from, Bor, Mut, Called, CalledAt, cond_both, false≢true, and_parts, get_or_from_slice_get, slice_get_within, none-some, same_Some, IsPermutation-sym, Contains-permutation, All, nat_tests, slice_get-get_or, All-cons, All-contains, All-map, All-filter, get_or-enumerate_from, length-enumerate_from}
 use Rattle.starlark_hash.specs.declared.hash_value.StarlarkHashValue.{StarlarkHashValue}
 use Rattle.starlark_hash.specs.Entries.{Entry, entry_key, is_under, stands_under, position_of, IsSingle}
@@ -8,11 +8,11 @@ use Rattle.std.proofs.lemmas.Option.{slice_get_cases}
 use Rattle.std.proofs.lemmas.List.Elements.{All-nil, filter_passes}
 
 module _ {F X : Type 0} (g : Mut F (Bor X × Unit {0}) Bool) where
-  -- each call from the state f on answers what t says of the item, and keeps the state
+  -- each call of the closure f returns what t says of the item, and leaves f as it is
   pub record IsTest (t : X → Bool) (f : F) : Type 0 where
     pub tells : (x : X) (accepts : Bool) (next : F) → CalledAt g f x accepts next → (accepts ≡ t x) × (next ≡ f)
 
-  -- from what the calls at references say
+  -- f is a test if each call with a reference returns what t says of the item, and leaves f as it is
   pub is_test : (t : X → Bool) (f : F) → ((x : Bor X) (accepts : Bool) (next : F) → Called g f (x, tt) accepts next → (accepts ≡ t x.now) × (next ≡ f)) → IsTest t f
   is_test t f tells = record {
     tells = λ x accepts next call. let told = tells call.shown accepts next call.called in (told.0 ∙ ap t call.shows, told.1);
@@ -35,12 +35,12 @@ module _ {F N X : Type 0} (g : Mut F (Bor X × Unit {0}) Bool) where
         let (x, (k, below, at), passes) = accepted_in order answer last n (rw (test.tells p.1 false next called).1 at rest) is in
         (x, (suc k, omega arith, at), passes)
 
-    -- where none is found, t refuses all items
+    -- if a search finds nothing, t refuses all items
     pub test-refused : (items : List (N × X)) (answer : Option N) (last : F) → Searches g items f answer last → answer ≡ None → (p : N × X) → Contains items p → t p.1 ≡ false
     test-refused items answer last search is p there =
         All-contains (λ q. t q.1 ≡ false) search.order p (refused_in search.order answer last search.asks is) (Contains-permutation items search.order p search.rearranged there)
 
-    -- a name that is found is that of an item that t accepts
+    -- the name that a search finds is that of an item that t accepts
     pub test-accepted : (items : List (N × X)) (answer : Option N) (last : F) (n : N) → Searches g items f answer last → answer ≡ Some n → (x : X) × Contains items (n, x) × (t x ≡ true)
     test-accepted items answer last n search is =
         let (x, there, passes) = accepted_in search.order answer last n search.asks is in
@@ -55,7 +55,7 @@ kept p h (y ∷ ys) x (suc k, below, at) passes =
     cond_both (p y) (y ∷ filter p ys) (filter p ys) (λ zs. Contains (map h zs) (h x)) (λ _. (suc j, omega arith, is)) (λ _. (j, within, is))
 
 module _ {K V : Type 0} (hash : StarlarkHashValue) where
-  -- a name among the keys under a hash is the index of an entry under it, with that key
+  -- each name in `keys_under` is the index of an entry that is stored under the hash with this key
   pub keys_under-at : (es : List (Entry K V)) (i : ℕ) (key : K) → Contains (keys_under hash es) (i, key) → (e : Entry K V) × (slice_get es i ≡ Some e) × (is_under hash e ≡ true) × (key ≡ entry_key e)
   keys_under-at es i key there =
       let IsAt = λ (p : ℕ × K). (e : Entry K V) × (slice_get es p.0 ≡ Some e) × (is_under hash e ≡ true) × (p.1 ≡ entry_key e) in
@@ -66,7 +66,7 @@ module _ {K V : Type 0} (hash : StarlarkHashValue) where
       (All-map IsAt (λ (p : ℕ × Entry K V). (p.0, entry_key p.1)) (filter test ps)
       (λ k d below. ((get_or (filter test ps) k d).1, All-filter test (λ p. slice_get es p.0 ≡ Some p.1) ps named k d below, filter_passes test ps k d below, refl))) there
 
-  -- and each such entry is among them
+  -- each entry that is stored under the hash is in `keys_under`
   pub at-keys_under : (es : List (Entry K V)) (i : ℕ) (e : Entry K V) → slice_get es i ≡ Some e → is_under hash e ≡ true → Contains (keys_under hash es) (i, entry_key e)
   at-keys_under es i e at under =
       let within = slice_get_within es i e at in
@@ -89,14 +89,14 @@ module _ {K V : Type 0} (eq : K → K → Bool) (t : K → Bool) (alike : (x y :
   same_index : (i j : ℕ) (d e : Entry K V) → slice_get es i ≡ Some d → slice_get es j ≡ Some e → Passes d → Passes e → i ≡ j
   same_index i j d e at_i at_j does_d does_e = grind (arith, clash)
 
-  -- what stands at the position
+  -- the entry at the position passes
   at_position : (j : ℕ) → position_of hash t es ≡ Some j → (e : Entry K V) × (slice_get es j ≡ Some e) × Passes e
   at_position j is = elim (slice_get_cases es j).1 [
     | inl (e, within, at, same) ↦ (e, at, and_parts (is_under hash e) (t (entry_key e)) (rw same at (position-passes (stands_under hash t) es j e is)))
     | inr past ↦ absurd (omega (arith, past, position-within (stands_under hash t) es j is))
   ]
 
-  -- and it is the position
+  -- an index whose entry passes is the position
   pub position_of-only : (i : ℕ) (e : Entry K V) → slice_get es i ≡ Some e → is_under hash e ≡ true → t (entry_key e) ≡ true → position_of hash t es ≡ Some i
   position_of-only i e at under does = at_index (position_of hash t es) refl where
     at_index : (index : Option ℕ) → position_of hash t es ≡ index → index ≡ Some i
@@ -106,7 +106,7 @@ module _ {K V : Type 0} (eq : K → K → Bool) (t : K → Bool) (alike : (x y :
     at_index (Some j) is = let (d, at_j, passes) = at_position j is in ap (λ k. Some k) (same_index j i d e at_j at passes (under, does))
 
   module _ {F : Type 0} (g : Mut F (Bor K × Unit {0}) Bool) (f : F) (test : IsTest g t f) where
-    -- a search by a test that passes equal keys alone answers the position
+    -- a search by a test that passes only equal keys finds the position
     pub search-position_of : (answer : Option ℕ) (last : F) → Searches g (keys_under hash es) f answer last → answer ≡ position_of hash t es
     search-position_of None last search = none (position_of hash t es) refl where
       none : (index : Option ℕ) → position_of hash t es ≡ index → None ≡ index

@@ -1,4 +1,4 @@
--- What sorting makes of a list.
+-- Sorted lists: they ascend, keep the items and the order of ties, and are determined by that.
 use Rattle.starlark_hash.proofs.Common.{length, length_permutation, ◌≡◌, zero, suc, Bool, false, List, [], ◌∷◌, refl, sym, ◌∙◌, arith, filter, IsPermutation, IsStrictWeakOrder, IsTotalOrder, IsSortedBy, IsStableBy, Ordering, cond_both, All-cons, All-head, All-tail, All-weaker, sorted_far, ranks_by, IsPermutation-refl, IsPermutation-cons, IsPermutation-trans, IsPermutation-middle, All-permutation}
 use Rattle.std.specs.Prelude.{All}
 use Rattle.std.specs.List.Sorted.{ties}
@@ -61,7 +61,7 @@ module _ {X : Type 0} (lt : X → X → Bool) where
         let none = filter-none (ties lt z) (y ∷ ys) never in
         grind (arith, irrefl z))
 
-    -- lists that rise and agree on each class of ties are one
+    -- two ascending lists with the same items in each class of ties are equal
     unique : (ys zs : List X) → Rises ys → Rises zs → ((x : X) → filter (ties lt x) ys ≡ filter (ties lt x) zs) → ys ≡ zs
     unique [] [] up over same = refl
     unique [] (z ∷ zs) up over same = grind (arith, irrefl z, same z)
@@ -96,7 +96,7 @@ module _ {X : Type 0} (lt : X → X → Bool) where
     insert_sorted-stable x [] t = refl
     insert_sorted-stable x (y ∷ ys) t = let later = insert_sorted-stable x ys t in let far = order.chain y t x in grind arith
 
-    -- what is sorted ascends, and those that tie keep their order
+    -- a sorted list ascends, and ties keep their order
     pub sorted_by-sorted : (xs : List X) → IsSortedBy lt (sorted_by lt xs)
     sorted_by-sorted xs = Rises-to (sorted_by lt xs) (Rises-sorted_by xs)
 
@@ -104,19 +104,19 @@ module _ {X : Type 0} (lt : X → X → Bool) where
     sorted_by-stable [] t = refl
     sorted_by-stable (x ∷ xs) t = rw (insert_sorted-stable x (sorted_by lt xs) t, sorted_by-stable xs t)
 
-    -- an ascending list in which those that tie stand as in xs is xs sorted
+    -- an ascending list in which ties are ordered as in xs is xs sorted
     pub sorted_by-unique : (xs ys : List X) → IsSortedBy lt ys → IsStableBy lt xs ys → ys ≡ sorted_by lt xs
     sorted_by-unique xs ys up stable = unique ys (sorted_by lt xs) (Rises-from ys up) (Rises-sorted_by xs) (λ x. stable x ∙ sym (sorted_by-stable xs x))
 
-    -- a list that ascends is itself sorted
+    -- sorting an ascending list changes nothing
     pub sorted_by-fixed : (xs : List X) → IsSortedBy lt xs → sorted_by lt xs ≡ xs
     sorted_by-fixed xs up = sym (sorted_by-unique xs xs up (λ _. refl))
 
-    -- sorting twice is once
+    -- sorting twice gives what sorting once gives
     pub sorted_by-twice : (xs : List X) → sorted_by lt (sorted_by lt xs) ≡ sorted_by lt xs
     sorted_by-twice xs = sorted_by-fixed (sorted_by lt xs) (sorted_by-sorted xs)
 
 module _ {K V : Type 0} {cmp : K → K → Ordering} (total : IsTotalOrder cmp) where
-  -- entries compared by their keys
+  -- the order of entries by their keys is a strict weak order
   pub key_lt-order : IsStrictWeakOrder (key_lt {K = K} {V = V} cmp)
   key_lt-order = ranks_by total entry_key

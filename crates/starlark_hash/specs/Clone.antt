@@ -11,7 +11,7 @@ module _ {A B : Type 0} where
   abbrev pub IsPairClone : (A → A → Type 0) → (B → B → Type 0) → A × B → A × B → Type 0
   IsPairClone first second p q = first p.0 q.0 × second p.1 q.1
 
--- a clone is its original's value in all parts
+-- a clone and its original are the same value
 abbrev pub IsLawfulClone : {T : Type 0} → (T → T → Type 0) → Type 0
 IsLawfulClone {T} is_clone = (x y : T) → is_clone x y → y ≡ x
 

@@ -1,4 +1,4 @@
--- Hash values and the keys under them.
+-- Hash values, and keys with their hashes.
 use Rattle.std.specs.Prelude.{ℕ, ◌*◌, ◌%◌, ◌/◌, ◌^◌, bit_xor}
 use Rattle.starlark_hash.specs.declared.hash_value.StarlarkHashValue.{StarlarkHashValue}
 use Rattle.starlark_hash.specs.declared.hashed.Hashed.{Hashed}
@@ -15,7 +15,7 @@ hash_value n = record { 0 = n }
 abbrev pub promoted : ℕ → ℕ
 promoted h = (h * 0x9e3779b97f4a7c15) % 2 ^ 64
 
--- a 64-bit number, xor its upper 31 bits
+-- a 64-bit number xor its own upper 31 bits
 abbrev pub folded : ℕ → ℕ
 folded h = bit_xor h (h / 2 ^ 33)
 
@@ -24,14 +24,14 @@ abbrev pub mixed : ℕ → ℕ
 mixed h = folded ((folded ((folded h * 0xff51afd7ed558ccd) % 2 ^ 64) * 0xc4ceb9fe1a85ec53) % 2 ^ 64)
 
 module _ {K : Type 0} where
-  -- a key under a hash
+  -- the key with this hash
   abbrev pub hashed : StarlarkHashValue → K → Hashed K
   hashed hash key = record { hash = hash; key = key }
 
-  -- the hash that a key stands under
+  -- the hash that the key is stored under
   abbrev pub hash_of : Hashed K → StarlarkHashValue
   hash_of h = h.hash
 
-  -- the key that stands under the hash
+  -- the key without its hash
   abbrev pub key_of : Hashed K → K
   key_of h = h.key

@@ -1,4 +1,4 @@
--- What a `StarlarkHasher` computes, and own hashes.
+-- What a `StarlarkHasher` computes, and a key's own hash.
 use Rattle.std.specs.Prelude.{ℕ, zero, suc, ◌+◌, ◌*◌, ◌/◌, ◌%◌, ◌^◌, List, [], ◌∷◌, length, take, drop, nat_le, if◌then◌else◌, bit_xor, fold}
 use Rattle.std.specs.Int.{w64, rotate_left}
 use Rattle.std.specs.Hash.{HashWrites}
@@ -9,21 +9,22 @@ use Rattle.starlark_hash.specs.declared.hasher.StarlarkHasher.{StarlarkHasher}
 unfoldable pub add_word : ℕ → ℕ → ℕ
 add_word s w = (bit_xor (rotate_left w64 s 5) w * 0x517cc1b727220a95) % 2 ^ 64
 
--- the number of these bytes, the lowest first
+-- these bytes as a little-endian number
 abbrev pub number : List ℕ → ℕ
 number [] = 0
 number (b ∷ bs) = b + 256 * number bs
 
--- one word of n bytes where so many are left, and then the words of the rest
+-- one word of n bytes if that many are left, and then the words of the rest
 abbrev pub group : ℕ → (List ℕ → List ℕ) → List ℕ → List ℕ
 group n rest bs = if nat_le n (length bs) then number (take n bs) ∷ rest (drop n bs) else rest bs
 
--- so many words of 8 bytes, then one of 4, one of 2 and one of 1
+-- this number of words of 8 bytes, then one of 4, one of 2 and one of 1, as far as bytes are left
 abbrev pub groups : ℕ → List ℕ → List ℕ
 groups zero bs = group 4 (group 2 (group 1 (λ _. []))) bs
 groups (suc n) bs = number (take 8 bs) ∷ groups n (drop 8 bs)
 
--- the words of some bytes: one for each whole group of 8, then one of 4, one of 2 and one of 1 where so many are left
+-- the words that bytes are read as: one for each whole group of 8, then one of 4, one of 2 and one of 1, as far as
+-- bytes are left
 unfoldable pub words : List ℕ → List ℕ
 words bs = groups (length bs / 8) bs
 
@@ -51,7 +52,8 @@ finish s = s.state
 abbrev pub finish_small : StarlarkHasher → StarlarkHashValue
 finish_small s = record { 0 = finish s % 2 ^ 32 }
 
--- the hash of some writes: what a new hasher comes to after them, cut to 32 bits. Proofs over own hashes never unfold it
+-- the hash of these writes: the low 32 bits of what a new hasher finishes with after them. No proof about own hashes
+-- unfolds it
 unfoldable pub hash_of_writes : HashWrites → StarlarkHashValue
 hash_of_writes writes = finish_small (after_writes writes)
 

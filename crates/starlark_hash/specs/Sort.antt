@@ -5,12 +5,12 @@ use Rattle.std.specs.declared.cmp.Ordering.{Ordering}
 use Rattle.starlark_hash.specs.Entries.{Entry, entry_key}
 
 module _ {X : Type 0} (lt : X → X → Bool) where
-  -- the list with x put before the first item that is not less
+  -- the list with x inserted before the first item that is not less
   abbrev pub insert_sorted : X → List X → List X
   insert_sorted x [] = x ∷ []
   insert_sorted x (y ∷ ys) = if lt y x then y ∷ insert_sorted x ys else x ∷ y ∷ ys
 
-  -- the items in ascending order, those that tie in the order that they had
+  -- the items in ascending order; ties keep their order
   abbrev pub sorted_by : List X → List X
   sorted_by [] = []
   sorted_by (x ∷ xs) = insert_sorted x (sorted_by xs)
@@ -24,6 +24,6 @@ module _ {K V : Type 0} (cmp : K → K → Ordering) where
   abbrev pub Ascends : List (Entry K V) → Type 0
   Ascends es = IsSortedByKey entry_key cmp es
 
-  -- the entries in ascending order of their keys, those with equal keys in the order that they had
+  -- the entries in ascending order of their keys; those with equal keys keep their order
   abbrev pub sorted_by_key : List (Entry K V) → List (Entry K V)
   sorted_by_key es = sorted_by key_lt es

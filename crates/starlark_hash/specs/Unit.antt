@@ -1,4 +1,4 @@
--- The value `()` of a set's elements: what it adds to comparisons, hashes, clones and walks, which is nothing.
+-- The value `()` of a set's elements, which adds nothing to comparisons, hashes, clones and iterators.
 use Rattle.std.specs.Prelude.{◌≡◌, Bool, true, List, [], Option}
 use Rattle.std.proofs.Common.{refl}
 use Rattle.std.specs.Borrow.{Bor}
@@ -20,7 +20,7 @@ same_unit x y = true
 abbrev pub unit_cmp : Unit {0} → Unit {0} → Ordering
 unit_cmp x y = Equal
 
--- a clone of `()` is it
+-- a clone of `()` is `()`
 abbrev pub IsUnitClone : Unit {0} → Unit {0} → Type 0
 IsUnitClone x y = y ≡ x
 
@@ -41,10 +41,10 @@ module _ {T : Type 0} where
   abbrev pub set_feed : List (Entry T (Unit {0})) → HashWrites
   set_feed es = ordered_feed (λ _. []) es
 
-  -- what a `Hashed<&T>` points to, under its hash
+  -- the key that a `Hashed<&T>` points to, with its hash
   abbrev pub deref_hashed : Hashed (Bor T) → Hashed T
   deref_hashed h = hashed (hash_of h) (key_of h).now
 
--- a step of an iterator that gives each item beside `()`, as a set puts it into its map
+-- a step of an iterator that pairs each item with `()`, which is how a set inserts it into its map
 abbrev pub StepsBeside : {S A : Type 0} → (S → Option A → S → Type 0) → S → Option (A × Unit {0}) → S → Type 0
 StepsBeside steps s r t = steps s (option_map (λ p. p.0) r) t

@@ -11,7 +11,7 @@ use std::hash::Hash;
 pub struct StarlarkHashValue(u32);
 
 impl StarlarkHashValue {
-    /// The key's own hash: what a new hasher finishes with after it was fed the key, cut to 32 bits.
+    /// The key's own hash: the low 32 bits of what a new hasher finishes with after it is fed the key.
     #[tactic(auto, unfolding(crate::specs::Hasher::hash_of_writes))]
     #[inline]
     pub fn new<K: Hash>(key: &K) -> Self
@@ -30,7 +30,7 @@ impl StarlarkHashValue {
         StarlarkHashValue(hash)
     }
 
-    /// The low 32 bits of the number, once its bits are well mixed (the finalizer of MurmurHash3).
+    /// Mixes the bits of the number with the finalizer of MurmurHash3, and keeps the low 32 bits.
     #[inline]
     pub fn hash_64(h: u64) -> Self
         ensures { hash_number result ≡ mixed h % 2 ^ 32 }
@@ -43,7 +43,7 @@ impl StarlarkHashValue {
         StarlarkHashValue((h & 0xffff_ffff) as u32)
     }
 
-    /// The number.
+    /// The hash as a number of 32 bits.
     #[inline]
     pub const fn get(self) -> u32
         ensures number { result ≡ hash_number self }
@@ -52,8 +52,8 @@ impl StarlarkHashValue {
         self.0
     }
 
-    /// A 64-bit hash from this one, for tables that take their slots from the upper bits. Different hashes
-    /// have different ones.
+    /// A 64-bit hash computed from this one, for tables that take the slot from the upper bits. Different hashes have
+    /// different promotions.
     #[inline]
     pub fn promote(self) -> u64
         ensures promoted { result ≡ promoted (hash_number self) }

@@ -1,4 +1,4 @@
-//! Keys under a hash.
+//! `Hashed`, a key with the hash that it is stored under.
 ghost use Rattle.std.specs.Prelude.{◌≡◌, IsTrue, IsOk, IfOk};
 ghost use Rattle.std.specs.Borrow.{sem};
 ghost use Rattle.starlark_hash.specs.HashValue.{hashed, hash_of, key_of};
@@ -10,8 +10,8 @@ use crate::query::OwnedQuery;
 use std::alloc::{AllocError, Global};
 use std::hash::Hash;
 
-/// A key and the hash that it stands under. `==` compares both. The order goes by key and then by hash. `Hash` feeds
-/// the hash alone, as one number of 32 bits.
+/// A key and the hash that it is stored under. `==` compares both. The order compares the keys, and then the hashes.
+/// `Hash` feeds only the hash, as one number of 32 bits.
 #[derive(Clone, Copy, Debug, Drop)]
 pub struct Hashed<K> {
     hash: StarlarkHashValue,
@@ -19,7 +19,7 @@ pub struct Hashed<K> {
 }
 
 impl<K> Hashed<K> {
-    /// The key under its own hash.
+    /// The key with its own hash.
     #[inline]
     pub fn new(key: K) -> Self
     where
@@ -32,7 +32,7 @@ impl<K> Hashed<K> {
         }
     }
 
-    /// The key under this hash, which need not be its own.
+    /// The key with this hash, which need not be its own.
     #[inline]
     pub fn new_unchecked(hash: StarlarkHashValue, key: K) -> Self
         ensures { result ≡ hashed hash key }
@@ -48,8 +48,7 @@ impl<K> Hashed<K> {
         &self.key
     }
 
-    /// The key, to be changed: what is left in it is the key afterwards. The hash stays, also where it is no longer the
-    /// key's own.
+    /// The key, mutably. The hash does not change, even if it is no longer the key's own.
     #[inline]
     pub fn key_mut(&mut self) -> &mut K
         ensures* writes_back { sem 𝓛 (lends_key K.row self.entry result) }
@@ -74,7 +73,7 @@ impl<K> Hashed<K> {
         self.hash
     }
 
-    /// A reference to the key, under the same hash.
+    /// A reference to the key, with the same hash.
     #[inline]
     pub fn as_ref(&self) -> Hashed<&K>
         ensures hash { hash_of result ≡ hash_of self.now }
@@ -83,7 +82,7 @@ impl<K> Hashed<K> {
         Hashed::new_unchecked(self.hash, &self.key)
     }
 
-    /// A key that the query makes, under the same hash. It is refused only where `to_owned_key` is.
+    /// The key that the query makes, with the same hash. It is refused only if `to_owned_key` is.
     #[inline]
     pub fn owned<T: Eq>(self, alloc: Global) -> Result<Hashed<T>, AllocError>
     where
@@ -97,7 +96,7 @@ impl<K> Hashed<K> {
 }
 
 impl<'a, K> Hashed<&'a K> {
-    /// The key that is referred to, under the same hash.
+    /// A copy of the key that is referred to, with the same hash.
     #[inline]
     pub fn copied(self) -> Hashed<K>
     where
@@ -107,7 +106,7 @@ impl<'a, K> Hashed<&'a K> {
         Hashed::new_unchecked(self.hash, *self.key)
     }
 
-    /// A clone of the key that is referred to, under the same hash. It is refused only where the key's own `clone` is.
+    /// A clone of the key that is referred to, with the same hash. It is refused only if the key's own `clone` is.
     #[inline]
     pub fn cloned(self) -> Result<Hashed<K>, AllocError>
     where

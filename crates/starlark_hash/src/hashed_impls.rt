@@ -1,4 +1,5 @@
-//! The traits of keys under a hash: equal hashes and keys, order by keys and then by hashes, the hash alone is fed.
+//! The traits of `Hashed`: equality of hashes and keys, order by keys and then by hashes, and a `Hash` that feeds only
+//! the hash.
 ghost use Rattle.std.proofs.Common.{rules};
 ghost use Rattle.std.specs.Prelude.{◌≡◌};
 ghost use Rattle.std.specs.Cmp.{partial_order_from_own_ties};
@@ -40,7 +41,7 @@ impl<K: Ord> PartialOrd for Hashed<K> {
     }
 }
 
-// Equal keys are told apart by their hashes, so that only what is `==` compares as Equal.
+// Equal keys are ordered by their hashes, so that two values compare as `Equal` only if they are `==`.
 impl<K: Ord> Ord for Hashed<K> {
     ghost cmp = { hashed_cmp K.cmp };
 

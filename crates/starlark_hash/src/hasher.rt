@@ -6,19 +6,19 @@ ghost use Rattle.starlark_hash.specs.Hasher as starlark;
 use crate::hash_value::StarlarkHashValue;
 use std::hash::{BuildHasher, Hasher};
 
-/// A fast hasher that is not meant to withstand chosen keys.
+/// A fast hasher that does not withstand keys chosen by an attacker.
 ///
-/// It starts at 0. A word w turns the state s into (s rotated left by 5 bits, xor w) times 0x517cc1b727220a95, modulo
-/// 2^64. A number of up to 64 bits is one word, and one of 128 bits is two, the lower first. Bytes are read the lowest
-/// first on every machine: groups of 8, then one of 4, one of 2 and one byte where so many are left. `finish` answers
-/// the state, which is promised to no other build of this crate.
+/// The state begins at 0. A word w changes the state s to (s rotated left by 5 bits, xor w) times 0x517cc1b727220a95,
+/// modulo 2^64. A number of up to 64 bits is one word. A number of 128 bits is two words, the lower first. Bytes are
+/// read as little-endian words on every machine: words of 8 bytes, then one of 4, one of 2 and one of 1, as far as
+/// bytes are left. `finish` returns the state, which another build of this crate need not reproduce.
 #[derive(Drop)]
 pub struct StarlarkHasher {
     state: u64,
 }
 
 impl StarlarkHasher {
-    /// The hasher to which nothing was written.
+    /// A hasher to which nothing was written.
     #[inline]
     pub fn new() -> StarlarkHasher
         ensures { result ≡ starlark.initial }
@@ -41,7 +41,7 @@ impl StarlarkHasher {
         self.state = after_word(self.state, word);
     }
 
-    // Adds `word` where its `size` bytes are left.
+    // Adds `word` if at least `size` bytes are left; otherwise changes nothing.
     #[inline]
     fn add_if_left(&mut self, word: u64, size: usize, left: usize)
         ensures whole { size ≤ left → self.new ≡ starlark.with_word self.old word }
@@ -50,7 +50,7 @@ impl StarlarkHasher {
         self.state = after_word_if_left(self.state, word, size, left);
     }
 
-    // Adds the words of 8 bytes in a loop, whose end is mispredicted where lengths vary.
+    // Adds the words of 8 bytes in a loop. The end of the loop is mispredicted if lengths vary.
     #[tactic(auto, using(crate::proofs::HasherLemmas::groups_more, crate::proofs::HasherLemmas::groups_done))]
     #[inline]
     fn add_each_8(&mut self, bytes: &[u8])
@@ -62,7 +62,7 @@ impl StarlarkHasher {
         }
     }
 
-    // Adds the words of 8 bytes of 4 to 23 bytes.
+    // Adds the words of 8 bytes of 4 to 23 bytes, which are two at most, without a loop.
     #[inline]
     fn add_two_8(&mut self, bytes: &[u8])
         requires some { 4 ≤ length bytes.now }
@@ -74,8 +74,8 @@ impl StarlarkHasher {
         self.add_8(bytes, 8, 8 * both, 12 * both);
     }
 
-    // Adds the 8 bytes from `at` on, where they are there. The halves are read where `low` and `high` say: where those bytes
-    // are there, at `at` and behind it, and else at any places, so that nothing is read past the end.
+    // Adds the 8 bytes from `at` on, if there are that many. Their halves are read at `low` and `high`. If there are
+    // fewer bytes, these are any indices in bounds, so that nothing is read past the end.
     #[tactic(auto, using(crate::proofs::HasherLemmas::halves_from))]
     #[inline]
     fn add_8(&mut self, bytes: &[u8], at: usize, low: usize, high: usize)
@@ -96,7 +96,8 @@ impl StarlarkHasher {
         );
     }
 
-    // Adds a word of 4 bytes, where they are left after the words of 8. The place that is read is theirs, or one before.
+    // Adds a word of 4 bytes, if that many are left after the words of 8. Otherwise earlier bytes are read, and not
+    // used.
     #[tactic(auto, using(crate::proofs::HasherLemmas::group_steps))]
     #[inline]
     fn add_4(&mut self, bytes: &[u8])
@@ -109,7 +110,8 @@ impl StarlarkHasher {
         self.add_if_left(word as u64, 4, bytes.len() % 8);
     }
 
-    // Adds a word of 2 bytes, where they are left after those of 8 and 4. The place that is read is theirs, or one before.
+    // Adds a word of 2 bytes, if that many are left after the words of 8 and 4. Otherwise earlier bytes are read, and
+    // not used.
     #[tactic(auto, using(crate::proofs::HasherLemmas::group_steps))]
     #[inline]
     fn add_2(&mut self, bytes: &[u8])
@@ -122,7 +124,7 @@ impl StarlarkHasher {
         self.add_if_left(word, 2, bytes.len() % 4);
     }
 
-    // Adds the last byte, where one is left after the words of 8, 4 and 2.
+    // Adds the last byte, if one is left after the words of 8, 4 and 2.
     #[inline]
     fn add_1(&mut self, bytes: &[u8])
         ensures { self.new ≡ fold starlark.with_word self.old (starlark.group 1 (λ _. []) (drop (2 * (length bytes.now / 2)) bytes.now)) }
@@ -134,7 +136,7 @@ impl StarlarkHasher {
         self.add_if_left(word, 1, bytes.len() % 2);
     }
 
-    // Adds 4 to 23 bytes. No jump depends on how many, since it would be mispredicted where lengths vary.
+    // Adds 4 to 23 bytes. No jump depends on their number, since it would be mispredicted if lengths vary.
     #[inline]
     fn add_short(&mut self, bytes: &[u8])
         requires some { 4 ≤ length bytes.now }
@@ -148,8 +150,8 @@ impl StarlarkHasher {
     }
 }
 
-// The hasher after any bytes, out of line, so that what feeds a text is small enough to be inlined. The hasher goes by value, so
-// that its state is in no memory.
+// The hasher after any bytes. It is out of line, so that code that feeds a text is small enough to be inlined. The
+// hasher is passed by value, so that its state stays in a register.
 #[inline(never)]
 fn after_bytes(hasher: StarlarkHasher, bytes: &[u8]) -> StarlarkHasher
     ensures { result ≡ starlark.write hasher bytes.now }
@@ -166,7 +168,6 @@ fn after_bytes(hasher: StarlarkHasher, bytes: &[u8]) -> StarlarkHasher
     hasher
 }
 
-// The state after one word.
 #[inline]
 #[tactic(auto, unfolding(crate::specs::Hasher::add_word))]
 fn after_word(state: u64, word: u64) -> u64
@@ -175,8 +176,8 @@ fn after_word(state: u64, word: u64) -> u64
     (state.rotate_left(5) ^ word).wrapping_mul(0x517cc1b727220a95)
 }
 
-// The state after `word` where its `size` bytes are left, else `state`. Both are computed before one is taken: this is
-// branch-free, since the comparison would be mispredicted where lengths vary.
+// The state after `word` if at least `size` bytes are left, else `state`. It is branch-free, since the comparison would
+// be mispredicted if lengths vary: both states are computed, and one is selected.
 #[inline]
 fn after_word_if_left(state: u64, word: u64, size: usize, left: usize) -> u64
     ensures whole { size ≤ left → result ≡ starlark.add_word state word }
@@ -186,7 +187,6 @@ fn after_word_if_left(state: u64, word: u64, size: usize, left: usize) -> u64
     if size <= left { after } else { state }
 }
 
-// `at`, and `greatest` at most.
 #[inline]
 fn at_most(at: usize, greatest: usize) -> usize
     ensures within { result ≤ greatest }

@@ -1,4 +1,4 @@
-//! Hashes, keys under them, and the queries by which they are looked up.
+//! Hashes, keys stored under them, and the queries by which keys are looked up.
 #![tactic(auto)]
 
 pub mod equivalent;

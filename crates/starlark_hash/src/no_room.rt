@@ -7,8 +7,8 @@ use std::alloc::AllocError;
 use std::error::Error;
 use std::{fmt, io};
 
-/// No memory was found for a new entry. What was to be inserted comes back. The entries of the collection are as they
-/// were; its capacity may have grown.
+/// There was no memory for a new entry. What was to be inserted is handed back. The entries of the collection are
+/// unchanged; its capacity may have grown.
 #[derive(Debug, Drop)]
 pub struct NoRoom<T>(pub T);
 
@@ -22,15 +22,15 @@ impl<T> fmt::Display for NoRoom<T> {
 
 impl<T: fmt::Debug + Drop> Error for NoRoom<T> {}
 
-/// So that `?` hands a refusal on in a function that answers `AllocError`. What was to be inserted is dropped.
+/// Lets `?` pass a refusal on in a function that returns `AllocError`. What was to be inserted is dropped.
 impl<T: Drop> From<NoRoom<T>> for AllocError {
     fn from(_: NoRoom<T>) -> Self {
         AllocError
     }
 }
 
-/// So that `?` hands a refusal on in a function that answers `io::Result`, as want of memory. What was to be inserted
-/// is dropped.
+/// Lets `?` pass a refusal on in a function that returns `io::Result`, with the kind `OutOfMemory`. What was to be
+/// inserted is dropped.
 impl<T: Drop> From<NoRoom<T>> for io::Error {
     ghost from_gives = { λ _ e. error_kind e ≡ OutOfMemory };
 

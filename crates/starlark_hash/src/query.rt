@@ -1,4 +1,4 @@
-//! What a look-up takes in the place of a key: a reference to a key or to an `Equivalent` of one, a text, a slice.
+//! What a look-up takes in place of a key: a reference to a key or to an `Equivalent` of one, a text, or a slice.
 ghost use Rattle.std.proofs.Common.{rules};
 ghost use Rattle.std.specs.Box.{boxed_str_bytes};
 ghost use Rattle.std.specs.Cmp.Lexicographic.{lists_equiv, nat_list_eq_equiv, pointwise};
@@ -17,9 +17,9 @@ use std::boxed::BoxedStr;
 use std::hash::Hash;
 use std::rc::RcStr;
 
-/// What a look-up takes in the place of a key, by value.
+/// What a look-up takes in place of a key, by value.
 pub trait Query<K: Eq>: Copy {
-    // What `stands_for` answers.
+    // What `stands_for` returns.
     ghost stands_for: { Self → K → Bool };
 
     /// Whether the query stands for this key.
@@ -30,7 +30,7 @@ pub trait Query<K: Eq>: Copy {
     ghost respects_eq: { (q : Self) (x y : K) → IsTrue (stands_for q x) → stands_for q y ≡ K.eq x y };
 }
 
-/// A query that feeds a hasher what the keys feed that it stands for, so that its own hash is theirs.
+/// A query that feeds a hasher what each key that it stands for feeds, so that its own hash is the key's.
 pub trait HashQuery<K: Eq + Hash>: Query<K> + Hash {
     // A query that stands for a key feeds a hasher what the key feeds.
     ghost feeds_alike: { (q : Self) (k : K) → IsTrue (Self.stands_for q k) → Self.hash_input q ≡ K.hash_input k };
@@ -38,10 +38,10 @@ pub trait HashQuery<K: Eq + Hash>: Query<K> + Hash {
 
 /// A query that can make a key that it stands for.
 pub trait OwnedQuery<K: Eq>: Query<K> {
-    // Holds of a query whose `to_owned_key` is not refused.
+    // Holds of a query whose `to_owned_key` is never refused.
     ghost is_infallible: { Self → Type 0 } = { λ _. ⊥ };
 
-    /// A key that the query stands for. It is refused only for want of memory.
+    /// Makes a key that the query stands for. It is refused only if there is no memory.
     fn to_owned_key(&self, alloc: Global) -> Result<K, AllocError>
         ensures key { IfOk result (λ key. IsTrue (Self.stands_for self.now key)) }
         ensures succeeds { is_infallible self.now → IsOk result };

@@ -1,12 +1,12 @@
-//! Whether two texts are the same.
+//! The equality of texts, fast for short ones.
 ghost use Rattle.std.specs.Prelude.{◌≡◌, ◌+◌, ◌≤◌, length, take, drop};
 ghost use Rattle.std.specs.Int.{w32, from_le_bytes};
 ghost use Rattle.std.specs.Str.{bytes_eq};
 
-// Whether two texts have the same bytes, as `==` answers.
+// Whether two texts have the same bytes, which is what `==` returns.
 //
-// Texts of 4 to 20 bytes, as most names are, are compared as five groups of 4 bytes, which overlap in shorter texts. No
-// jump depends on their length, since it would be mispredicted where lengths vary.
+// Texts of 4 to 20 bytes, which most names are, are compared as five groups of 4 bytes. The groups overlap in shorter
+// texts. No jump depends on the length, since it would be mispredicted if lengths vary.
 #[inline]
 pub(crate) fn same_text(a: &str, b: &str) -> bool
     ensures { result ≡ bytes_eq a.now b.now }
@@ -31,7 +31,6 @@ pub(crate) fn same_text(a: &str, b: &str) -> bool
         & same_4(x, y, last)
 }
 
-// `last`, and 4 at most.
 #[inline]
 fn at_most_4(last: usize) -> usize
     ensures within { result ≤ last }
@@ -40,7 +39,7 @@ fn at_most_4(last: usize) -> usize
     if 4 < last { 4 } else { last }
 }
 
-// Compares up to 3 bytes: the first, the middle and the last one.
+// Compares up to 3 bytes by the first, the middle and the last one.
 #[inline]
 #[tactic(auto, using(crate::proofs::SameText::few_tell))]
 fn same_few(x: &[u8], y: &[u8]) -> bool
@@ -55,7 +54,7 @@ fn same_few(x: &[u8], y: &[u8]) -> bool
     (x[0] == y[0]) & (x[n / 2] == y[n / 2]) & (x[n - 1] == y[n - 1])
 }
 
-// Compares longer texts, out of line, so that what calls `same_text` stays small.
+// Compares longer texts. It is out of line, so that a caller of `same_text` stays small.
 #[inline(never)]
 fn same_long(a: &str, b: &str) -> bool
     ensures { result ≡ bytes_eq a.now b.now }
@@ -63,7 +62,7 @@ fn same_long(a: &str, b: &str) -> bool
     a == b
 }
 
-// Whether four bytes are the same.
+// Whether the four bytes from `at` on are the same in both.
 #[inline]
 #[tactic(auto, using(crate::proofs::SameText::groups_tell))]
 fn same_4(x: &[u8], y: &[u8], at: usize) -> bool
@@ -74,7 +73,7 @@ fn same_4(x: &[u8], y: &[u8], at: usize) -> bool
     read_4(x, at) == read_4(y, at)
 }
 
-// Four bytes as a number, the least significant first.
+// The four bytes from `at` on as a little-endian number.
 #[inline]
 fn read_4(bytes: &[u8], at: usize) -> u32
     requires { at + 4 ≤ length bytes.now }

@@ -1,10 +1,10 @@
-//! Items beside `()`, as a map takes them whose keys are a set's elements.
+//! An iterator that pairs each item with `()`, for a set that is stored as a map from its elements to `()`.
 ghost use Rattle.std.specs.Prelude.{◌≡◌};
 ghost use Rattle.starlark_hash.specs.Unit.{StepsBeside};
 
 use std::marker::Model;
 
-/// An iterator that answers each item of another as `(item, ())`.
+/// An iterator that returns each item of another one as `(item, ())`.
 #[derive(Drop)]
 pub struct WithUnit<I> {
     items: I,
@@ -17,7 +17,7 @@ impl<I> Model for WithUnit<I> {
 }
 
 impl<I> WithUnit<I> {
-    /// The items of this iterator, each beside `()`.
+    /// The items of this iterator, each paired with `()`.
     #[inline]
     pub fn new(items: I) -> Self
         ensures { result ≡ items }

@@ -1,9 +1,9 @@
-pub mod Ascending
-pub mod Given
-pub mod InsertedInOrder
-pub mod Rising
-pub mod SortedMapOpen
-pub mod Along
+pub mod AscendingLists
+pub mod UnionLookup
+pub mod AscendingInsertions
+pub mod AscendingUnion
+pub mod SortedMapFields
+pub mod AscendingKeys
 mod Images
-mod InOrder
-mod Writing
+mod AscendingMembers
+mod JsonWrites

@@ -1,4 +1,5 @@
--- Sets of texts as arrays. `Data`, `Items`, `as_array` and their kin are the words of `serde_json` for its `Value`.
+-- Sets of texts as JSON arrays. `Data`, `Items`, `as_array` and related definitions are those of `serde_json` for its
+-- `Value`.
 use Rattle.std.specs.Prelude.{◌≡◌, List, [], ◌∷◌, ◌⊎◌, Option, Some, MatchOption, map, option_and_then}
 use Rattle.std.specs.Option.{option_map}
 use Rattle.std.specs.Str.{bytes_eq}
@@ -11,7 +12,7 @@ use Rattle.starlark_map.specs.JsonTexts.{Text, own_text}
 use Rattle.starlark_map.specs.declared.json.fault.JsonFault.{JsonFault}
 use Rattle.starlark_map.specs.declared.json.fault.JsonFault.TheVariants.{NotArray, NotText, Memory}
 
--- the elements of a set, each a text under its hash
+-- the elements of a set, each a text with its hash
 abbrev pub TextElements : Type 0
 TextElements = List (Entry Text (Unit {0}))
 
@@ -19,20 +20,21 @@ TextElements = List (Entry Text (Unit {0}))
 abbrev pub array_of : List Text → Data
 array_of texts = array (items_of (map string texts))
 
--- the items in order, each text under its own hash; none where an item is no text
+-- the items in order, each text with its own hash; none if an item is not a text
 abbrev pub elements_of_items : Items → Option TextElements
 elements_of_items no_items = Some []
 elements_of_items (item d ds) = option_and_then (λ text. option_map (λ es. (own_text text, tt) ∷ es) (elements_of_items ds)) (as_str d)
 
--- the elements of the set that a value is: an array's items, inserted one after the other, so that a text keeps its first index
+-- the elements of the set that a value represents: an array's items, inserted one after the other, so that a text keeps
+-- its first index
 abbrev pub set_entries : Data → Option TextElements
 set_entries d = option_map (insert_all bytes_eq []) (option_and_then elements_of_items (as_array d))
 
--- how reading these items may fail: the first that is no text is at fault, and memory may be refused at one before it
+-- the faults when these items are read: the first item that is not a text, or a refusal of memory at an item before it
 abbrev pub IsItemFault : Items → JsonFault → Type 0
 IsItemFault no_items fault = ⊥
 IsItemFault (item d ds) fault = MatchOption (as_str d) (fault ≡ NotText) (λ text. (fault ≡ Memory) ⊎ IsItemFault ds fault)
 
--- how reading this value as a set may fail: it is no array, or reading its items fails
+-- the faults when this value is read as a set: it is not an array, or reading its items fails
 abbrev pub IsSetFault : Data → JsonFault → Type 0
 IsSetFault d fault = MatchOption (as_array d) (fault ≡ NotArray) (λ ds. IsItemFault ds fault)

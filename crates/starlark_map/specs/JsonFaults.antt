@@ -1,4 +1,4 @@
--- What a fault says.
+-- The texts of faults.
 use Rattle.std.specs.Prelude.{ℕ, List, codes}
 use Rattle.starlark_map.specs.declared.json.fault.JsonFault.{JsonFault}
 use Rattle.starlark_map.specs.declared.json.fault.JsonFault.TheVariants.{NotObject, NotArray, NotText, NotInteger, Memory}

@@ -1,4 +1,4 @@
--- What small maps and sets of strings hold, their strings as texts.
+-- The content of small maps and sets of strings, with the strings as texts.
 use Rattle.std.specs.Prelude.{ℕ, List, map, string_bytes}
 use Rattle.std.specs.Cmp.Lexicographic.{slice_cmp}
 use Rattle.std.specs.Hash as fed
@@ -19,12 +19,12 @@ Text = List ℕ
 abbrev pub text_cmp : Text → Text → Ordering
 text_cmp = slice_cmp nat_cmp
 
--- a text under its own hash, which is that of the string with these bytes
+-- a text with its own hash, which is that of the string with these bytes
 abbrev pub own_text : Text → Hashed Text
 own_text text = own_hashed fed.str text
 
 module _ {V : Type 0} where
-  -- an entry, its key as a text under the same hash
+  -- an entry with its key as a text, under the same hash
   abbrev pub text_entry : Entry (String Global) V → Entry Text V
   text_entry e = (hashed (entry_hash e) (string_bytes (entry_key e)), entry_value e)
 
@@ -36,6 +36,6 @@ module _ {V : Type 0} where
   abbrev pub texts_of : List (Entry (String Global) V) → List Text
   texts_of es = map (λ e. string_bytes (entry_key e)) es
 
-  -- the keys, as texts, and values in order, whatever hashes the keys stand under
+  -- the keys as texts, and the values, in order, without the hashes
   abbrev pub text_pairs_of : List (Entry (String Global) V) → List (Text × V)
   text_pairs_of es = map (λ e. (string_bytes (entry_key e), entry_value e)) es

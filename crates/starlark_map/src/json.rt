@@ -1,5 +1,5 @@
-//! Small maps of integers and small sets of texts as JSON values, and back. A value is seen as the `Data` of
-//! `serde_json`, whose objects have each key once, in ascending order.
+//! JSON: small maps to integers and small sets of texts as values, and back. A value is seen as the `Data` of `serde_json`,
+//! whose objects have each key once, in ascending order.
 
 pub mod fault;
 pub mod map;

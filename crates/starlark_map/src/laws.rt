@@ -1,4 +1,5 @@
-//! Functions whose contract is a law of keys, hashes, lists, runs or unordered maps. A proof gains the law by the call.
+//! Functions whose contract is a law of keys, hashes, lists, runs or unordered maps. A proof gains the law by calling the
+//! function.
 
 pub use starlark_hash::hash_value::{equal_keys_have_one_hash, promotion_is_injective};
 pub use starlark_hash::key_query::query_has_the_hash_of_its_key;

@@ -1,4 +1,4 @@
-//! The collections under Rust's module paths: the crate that a caller names first.
+//! The collections under Rust's module paths: the crate that a user names first.
 #![tactic(auto)]
 
 pub mod json;

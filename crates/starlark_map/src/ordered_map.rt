@@ -1,4 +1,4 @@
-//! `OrderedMap`: a small map whose equality, order and hash look at the order of its entries. Its walks and entries are
-//! those of `small_map`.
+//! `OrderedMap`: a small map whose equality, order and hash depend on the order of its entries. Its iterators and entries
+//! are those of `small_map`.
 
 pub use starlark_sets::OrderedMap;

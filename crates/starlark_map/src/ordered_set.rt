@@ -1,5 +1,5 @@
-//! `OrderedSet`: a small set whose equality, order and hash look at the order of its elements; its walks, its
-//! union, and what `try_insert` answers of an element that is there.
+//! `OrderedSet`: a small set whose equality, order and hash depend on the order of its elements; its iterators, its union,
+//! and what `try_insert` returns for an element that is there.
 
 pub use starlark_sets::ordered_set::{IntoIter, Iter, OccupiedError, OrderedSet, TryInsertError};
 pub use starlark_sets::{IterHashed, Union};

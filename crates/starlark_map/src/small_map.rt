@@ -1,5 +1,5 @@
-//! `SmallMap`: a map that walks in the order of insertion, to which a look-up can bring a hash computed before; its
-//! walks and its entries, and the greatest length that a list may have without an index.
+//! `SmallMap`: a map that iterates in the order of insertion, with look-ups under precomputed hashes; its iterators and
+//! entries, and the greatest length of a list without a hash index.
 
 pub use starlark_small::{
     Entry, IntoIter, IntoIterHashed, IntoKeys, IntoValues, Iter, IterHashed, IterMut, Keys,

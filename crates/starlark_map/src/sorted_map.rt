@@ -1,4 +1,4 @@
-//! A map whose keys ascend. It alone sees the map inside.
+//! A map whose keys ascend. No other module sees its ordered map.
 ghost use Rattle.starlark_small.specs.New.{IsBare};
 ghost use Rattle.starlark_small.specs.Clone.{Clones};
 ghost use Rattle.std.specs.Prelude.{◌≡◌, None, IsOk, IsTrue, IfOk, IfSome, ◌==◌, ◌<◌, ◌^◌, length, map};
@@ -25,8 +25,8 @@ use std::alloc::{AllocError, Global};
 use std::hash::Hash;
 use std::marker::Model;
 
-/// An `OrderedMap` whose keys ascend: strictly, where each stands under its own hash. Equal keys under different hashes
-/// may stand side by side. It is seen as the ordered map inside, and compared and hashed as that is.
+/// An `OrderedMap` whose keys ascend. They ascend strictly if each is stored under its own hash; equal keys under different
+/// hashes may be adjacent. It is seen as its ordered map, by which it is compared and hashed.
 #[derive(Debug, Drop)]
 pub struct SortedMap<K: Ord + Hash, V> {
     map: OrderedMap<K, V>,
@@ -54,10 +54,10 @@ impl<K: Ord + Hash, V> SortedMap<K, V> {
         }
     }
 
-    /// The entries of the map, sorted by key; those with equal keys keep their order. Where the keys ascend already it
-    /// asks for no memory. Where memory is refused, the map is handed back with its entries as they were. Capacity and
-    /// index are those of the map, done or refused.
-    #[tactic(auto, using(crate::proofs::Along::sorts))]
+    /// The entries of the map, sorted by key; those with equal keys keep their order. If the keys ascend already, it asks
+    /// for no memory. If memory is refused, the map is handed back with its entries unchanged. Capacity and hash index are
+    /// those of the map, done or refused.
+    #[tactic(auto, using(crate::proofs::AscendingKeys::sorts))]
     pub fn from_ordered_map(map: OrderedMap<K, V>) -> Result<Self, OrderedMap<K, V>>
         ensures { SortsInto K.eq K.cmp map result }
     {
@@ -69,7 +69,7 @@ impl<K: Ord + Hash, V> SortedMap<K, V> {
     }
 
     /// The entries of a `SmallMap`, sorted by key. Memory and refusals are those of [`SortedMap::from_ordered_map`].
-    #[tactic(auto, using(crate::proofs::Along::sorts))]
+    #[tactic(auto, using(crate::proofs::AscendingKeys::sorts))]
     pub fn from_small_map(map: SmallMap<K, V>) -> Result<Self, SmallMap<K, V>>
         ensures { SortsInto K.eq K.cmp map result }
     {
@@ -82,7 +82,7 @@ impl<K: Ord + Hash, V> SortedMap<K, V> {
         }
     }
 
-    /// How many entries there are.
+    /// The number of entries.
     #[inline]
     pub fn len(&self) -> usize
         ensures len { result ≡ length self.now.entries }
@@ -102,7 +102,7 @@ impl<K: Ord + Hash, V> SortedMap<K, V> {
     /// The value under the query's own hash whose key the query stands for.
     #[inline]
     pub fn get<Q: Query<K> + Hash>(&self, key: Q) -> Option<&V>
-        // What is found comes back: a value of the map, which has a key that the query stands for.
+        // A value that is found belongs to a key of the map that the query stands for.
         ensures value { option_copied result ≡ get Q.stands_for Q.hash_input self.now key }
         ensures member { IfSome (option_copied result) (λ value. IsAmong (map entry_value self.now.entries) value) }
         ensures key { IfSome result (λ _. HasKey (Q.stands_for key) self.now) }
@@ -113,15 +113,15 @@ impl<K: Ord + Hash, V> SortedMap<K, V> {
     /// Whether there is an entry under the query's own hash whose key the query stands for.
     #[inline]
     pub fn contains_key<Q: Query<K> + Hash>(&self, key: Q) -> bool
-        // Whether something is found, and then the map has a key that the query stands for.
+        // If an entry is found, the map has a key that the query stands for.
         ensures found { result ≡ contains Q.stands_for Q.hash_input self.now key }
         ensures key { IsTrue result → HasKey (Q.stands_for key) self.now }
     {
         self.map.contains_key(key)
     }
 
-    /// The value under the query's own hash whose key the query stands for, to be written. The map ends with what is
-    /// left in it, and all else stays. `None` where there is no such entry, and then the map is as it was.
+    /// The value under the query's own hash whose key the query stands for, for writing. The map ends with what is left in
+    /// it, and all else is unchanged. `None` if there is no such entry; then the map is unchanged.
     #[inline]
     pub fn get_mut<Q: Query<K> + Hash>(&mut self, key: Q) -> Option<&mut V>
         ensures* writes_back { sem 𝓛 (lends_get K.row V.row K.cmp K.eq K.partial_cmp K.hash_input self.entry (Q.stands_for key) (own_hash Q.hash_input key) result) }
@@ -133,9 +133,9 @@ impl<K: Ord + Hash, V> SortedMap<K, V> {
 }
 
 impl<K: Ord + Hash + Drop, V: Drop> SortedMap<K, V> {
-    /// The items, inserted into an empty map in their order, each under its key's own hash, and then sorted by key.
-    /// Where memory is refused, nothing is made and the items are dropped; where the iterator bounds that it has none,
-    /// it is not refused. Of items with equal keys the first key stays, with the last value. The iterator must end.
+    /// The items, inserted into an empty map in their order, each under its key's own hash, and then sorted by key. If
+    /// memory is refused, nothing is made and the items are dropped. It is not refused if the iterator's bounds say that it
+    /// has no items. Of items with equal keys the first key is kept, with the last value. The iterator must end.
     pub fn from_iter<I: IntoIterator<Item = (K, V)>>(
         alloc: Global,
         iter: I,
@@ -145,7 +145,7 @@ impl<K: Ord + Hash + Drop, V: Drop> SortedMap<K, V> {
         ensures found { IfOk result (FindsLast K.eq K.hash_input I.IntoIter.next_gives I.into_iter_gives iter (λ _. None)) }
         ensures along { IfOk result (λ map. AscendsAlong K.cmp (keys map)) }
         ensures own { IfOk result (AreOwn K.hash_input) }
-        // The map as a list, with its capacity and whether it has an index.
+        // The map as a list, with its capacity and whether it has a hash index.
         ensures map { IfOk result (CollectsSorted K.eq K.cmp (own_entry K.hash_input) I.IntoIter.next_gives I.into_iter_gives I.IntoIter.remaining iter) }
         ensures succeeds { GivesNothing I.into_iter_gives I.IntoIter.next_gives I.IntoIter.remaining iter → IsOk result }
     {
@@ -159,11 +159,11 @@ impl<K: Ord + Hash + Drop, V: Drop> SortedMap<K, V> {
 
 impl<K: Ord + Hash + Clone, V: Clone> SortedMap<K, V> {
     /// A map of clones of the entries under the same hashes, in their order, so that the same keys are found in it. Its
-    /// capacity is their number, and it has an index exactly where it is longer than `UNINDEXED`. Where memory is
-    /// refused, also to the clone of a key or a value, nothing is made. Without entries it is not refused. Required is
-    /// that a clone of a key is equal to it.
+    /// capacity is their number, and it has a hash index exactly if it is longer than `UNINDEXED`. If memory is refused,
+    /// also to the clone of a key or a value, nothing is made. It is not refused if there are no entries. The clone of a
+    /// key must be equal to the key.
     pub fn clone(&self) -> Result<Self, AllocError>
-        // A clone of a key is equal to it.
+        // The clone of a key is equal to the key.
         requires { IsEqualClone K.eq K.is_clone }
         ensures clones { Clones K.eq K.is_clone V.is_clone self.now result }
         ensures along { IfOk result (λ map. AscendsAlong K.cmp (keys map)) }

@@ -1,4 +1,4 @@
-//! A vector whose items ascend. It alone sees the vector inside.
+//! A vector whose items ascend. No other module sees its `Vec`.
 ghost use Rattle.starlark_map.specs.SortedCollect.{HasEveryItem};
 ghost use Rattle.std.specs.Iterator.Adapters.{IterYieldsInOrder, IterYieldsInReverse};
 ghost use Rattle.std.specs.Iterator.Runs.{EveryRun, ItemsAre};
@@ -18,8 +18,8 @@ use std::vec::IntoIter;
 
 mod compare;
 
-/// A vector whose items ascend. Equal items may stand side by side. It is seen as the list of its items; `==`, the
-/// order and `Hash` are those of that list.
+/// A vector whose items ascend. Equal items may be adjacent. It is seen as the list of its items, which decides `==`, the
+/// order and `Hash`.
 #[derive(Drop, Debug)]
 pub struct SortedVec<T: Ord> {
     vec: Vec<T>,
@@ -47,7 +47,7 @@ impl<T: Ord> SortedVec<T> {
         }
     }
 
-    /// The items of a vector that ascends already, which is required.
+    /// The items of a vector, which must ascend already.
     #[inline]
     pub fn new_unchecked(vec: Vec<T>) -> Self
         requires ascends { IsSorted T.cmp vec.items }
@@ -56,10 +56,10 @@ impl<T: Ord> SortedVec<T> {
         SortedVec { vec }
     }
 
-    /// Every item of the vector, sorted; equal ones keep their order. Where memory is refused, the vector
-    /// is handed back as it was. Up to 20 items need none.
+    /// Every item of the vector, sorted; equal items keep their order. If memory is refused, the vector is handed back
+    /// unchanged. Up to 20 items need none.
     pub fn from_vec(vec: Vec<T>) -> Result<Self, Vec<T>>
-        // Done: every item, as often as it was there, in ascending order; equal ones keep their order.
+        // Done: every item, as often as before, in ascending order; equal items keep their order.
         ensures every_item { IfOk result (IsPermutation vec.items) }
         ensures ascends { IfOk result (IsSorted T.cmp) }
         ensures stable { IfOk result (IsStable T.cmp vec.items) }
@@ -74,7 +74,7 @@ impl<T: Ord> SortedVec<T> {
         }
     }
 
-    // Where the memory of the items is from.
+    // The allocator of the items.
     #[inline]
     pub(crate) fn allocator(&self) -> Global {
         *self.vec.allocator()
@@ -94,10 +94,10 @@ impl<T: Ord> SortedVec<T> {
 }
 
 impl<T: Ord + Clone> SortedVec<T> {
-    /// A vector of clones of the items, in their order. Where memory is refused, also to the clone of an item, nothing
-    /// is made. Without items no memory is needed. Required is that a clone of an item is equal to it.
+    /// A vector of clones of the items, in their order. If memory is refused, also to the clone of an item, nothing is
+    /// made. It is not refused if there are no items. The clone of an item must be equal to the item.
     pub fn clone(&self) -> Result<Self, AllocError>
-        // A clone of an item is equal to it.
+        // The clone of an item is equal to the item.
         requires { IsEqualClone T.eq T.is_clone }
         ensures items { IfOk result (AllZip T.is_clone self.now) }
         ensures same { IfOk result (λ sorted. IsLawfulClone T.is_clone → sorted ≡ self.now) }
@@ -113,8 +113,8 @@ impl<T: Ord + Clone> SortedVec<T> {
 }
 
 impl<T: Ord + Drop> SortedVec<T> {
-    /// Every item that the iterator gives, sorted; equal ones keep their order. Where memory is refused, the items are
-    /// dropped. The iterator must end.
+    /// Every item of the iterator, sorted; equal items keep their order. If memory is refused, the items are dropped. The
+    /// iterator must end.
     pub fn from_iter<I: IntoIterator<Item = T>>(alloc: Global, iter: I) -> Result<Self, AllocError>
         requires { IsFiniteIterable I.into_iter_gives I.IntoIter.can_next I.IntoIter.remaining iter }
         ensures items { IfOk result (HasEveryItem T.cmp I.into_iter_gives I.IntoIter.next_gives iter) }

@@ -1,4 +1,4 @@
-//! The elements of either of two sets that ascend, in ascending order.
+//! The union of two ascending sets, in ascending order.
 ghost use Rattle.std.specs.Prelude.{◌≡◌, ◌+◌, ◌-◌, ◌^◌, ◌<◌, [], ◌∷◌, not, length, min, drop, Some, IfSome, MatchOption};
 ghost use Rattle.std.specs.Iterator.{UpTo, at_most};
 ghost use Rattle.std.specs.Iterator.SizeHint.{IsWithinCount};
@@ -14,15 +14,15 @@ use starlark_sets::{IterHashed, OrderedSet};
 use std::cmp::Ordering;
 use std::marker::Model;
 
-/// The elements of one set and those of another that it lacks, in ascending order; of equal ones those of the first set
-/// come first. An element is looked for under the hash that it stands under. It is seen as what it has left of both,
-/// and the list of the first set. A step passes over elements of the other set only where they come before all that is
-/// left of the first.
+/// The elements of one set and those of another that it lacks, in ascending order; of equal elements those of the first set
+/// come first. An element is looked up under the hash that it is stored under. The iterator is seen as what it has left of
+/// both, and the list of the first set. A step skips elements of the other set only if they come before all that is left of
+/// the first.
 #[derive(Drop)]
 pub struct SortedUnion<'a, T: Ord> {
     left: Ahead<'a, T>,
     right: Ahead<'a, T>,
-    // the element of the first set that was given last
+    // the element of the first set that was returned last
     last: Option<Hashed<&'a T>>,
     there: &'a OrderedSet<T>,
 }
@@ -54,7 +54,7 @@ impl<'a, T: Ord> SortedUnion<'a, T> {
         }
     }
 
-    // The next element of the first set, which is then the last that was given.
+    // Takes the next element of the first set, and records it as the last returned.
     #[inline]
     fn take_own(&mut self) -> Option<Hashed<&'a T>>
         ensures taken { MatchOption result ((own_rest T.eq T.cmp self.old ≡ []) × (drop 1 (own_rest T.eq T.cmp self.old) ≡ [])) (λ h. own_rest T.eq T.cmp self.old ≡ h.key.now ∷ rise_rest T.eq T.cmp self.new) }
@@ -96,8 +96,8 @@ impl<'a, T: Ord> Iterator for SortedUnion<'a, T> {
     }
 }
 
-// The next element, if it is the other set's: passes over those that this set has, as long as they come before all that
-// is left of this set.
+// Takes the next element if it is the other set's. It first skips elements that this set has, as long as they come before
+// all that is left of this set.
 fn next_before<'a, T: Ord>(
     right: &mut Ahead<'a, T>,
     left: &Ahead<'a, T>,
@@ -120,8 +120,8 @@ fn next_before<'a, T: Ord>(
     None
 }
 
-// Whether a set has an element that comes before all that is left of it. Only one that is not less than the last that was
-// given can be there.
+// Whether a set has an element that comes before all that is left of the set. The set can have it only if it is not less
+// than the last returned.
 #[tactic(auto, using(starlark_small::proofs::CallerLookup::look_ups))]
 fn is_given<T: Ord>(element: Hashed<&T>, last: Option<Hashed<&T>>, there: &OrderedSet<T>) -> bool
     requires { ComesNext T.cmp last there.now.entries (shown_element element) }
@@ -131,14 +131,14 @@ fn is_given<T: Ord>(element: Hashed<&T>, last: Option<Hashed<&T>>, there: &Order
         None => false,
         Some(last) => match last.key().cmp(element.key()) {
             Ordering::Less => false,
-            // the last given is in the set itself
+            // The element last returned is in the set itself.
             Ordering::Equal if last.hash() == element.hash() => true,
             _ => there.contains_hashed(element),
         },
     }
 }
 
-// Whether an element comes before all that is left of a list that ascends.
+// Whether an element comes before all that is left of an ascending list.
 fn stands_before<T: Ord>(element: Hashed<&T>, left: &Ahead<'_, T>) -> bool
     ensures { result ≡ comes_first T.cmp left.now (shown_element element.entry) }
 {
@@ -148,9 +148,9 @@ fn stands_before<T: Ord>(element: Hashed<&T>, left: &Ahead<'_, T>) -> bool
     }
 }
 
-// The elements that a walk has left: they ascend, and no two have the same hash and are equal. The first has been taken
-// from it already. The union's own invariant does not say so again: a step that is wrong then breaks the clause of
-// `next`, and no invariant.
+// The elements that an iterator has left: they ascend, and no two have the same hash and are equal. The first has already
+// been taken from the iterator. The union's own invariant does not repeat this, so that a wrong step breaks the clause of
+// `next` and not an invariant.
 #[derive(Drop)]
 pub(crate) struct Ahead<'a, T: Ord> {
     first: Option<Hashed<&'a T>>,
@@ -184,7 +184,7 @@ impl<'a, T: Ord> Ahead<'a, T> {
         Ahead { first, rest }
     }
 
-    // The next element, which stays.
+    // The next element, which is not taken.
     fn first(&self) -> Option<Hashed<&'a T>>
         ensures first { MatchOption result (self.now ≡ []) (λ h. self.now ≡ shown_element h ∷ drop 1 self.now) }
         ensures ascends { Ascends T.cmp self.now }

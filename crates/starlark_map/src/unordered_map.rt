@@ -1,5 +1,5 @@
-//! `UnorderedMap`: a finite map in an order that no contract tells, equal and hashed alike whatever history built it;
-//! its entries, raw entries and walks.
+//! `UnorderedMap`: a finite map in an unspecified order, equal and hashed alike whatever history built it; its entries, raw
+//! entries and iterators.
 
 pub use starlark_unordered::{
     Entries, EntriesMut, Entry, KeysUnordered, OccupiedEntry, RawEntryBuilderMut, RawEntryMut,

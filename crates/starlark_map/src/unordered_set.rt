@@ -1,4 +1,4 @@
-//! `UnorderedSet`: a finite set in an order that no contract tells; its raw entries.
+//! `UnorderedSet`: a finite set in an unspecified order; its raw entries.
 
 pub use starlark_unordered::unordered_set::{
     RawEntryBuilderMut, RawEntryMut, RawOccupiedEntryMut, RawVacantEntryMut, UnorderedSet,

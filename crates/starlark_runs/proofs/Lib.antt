@@ -1,10 +1,10 @@
 pub mod RunLemmas
-pub mod Determined
+pub mod Determinism
 pub mod MemoryLemmas
 pub mod RoomLemmas
 pub mod OneListLemmas
-pub mod Ordered
-pub mod Collected
-pub mod Anew
-pub mod Inserted
-pub mod Matching
+pub mod OrderedEquality
+pub mod EntryCollection
+pub mod NewMapMemory
+pub mod InsertionRoom
+pub mod EqualityByMatches

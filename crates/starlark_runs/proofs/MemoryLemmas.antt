@@ -1,4 +1,4 @@
--- What the words of a run's memory say of one another.
+-- Relations between the definitions on a run's memory.
 use Rattle.starlark_hash.proofs.Common.{◌≡◌, ◌+◌, ◌*◌, ◌≤◌, ℕ, Bool, List, [], ◌∷◌, length, max, Option, cond, refl, sym, subst, ◌∙◌, arith, rules, common_steps, Ordering}
 use Rattle.std.specs.Prelude.{is_none}
 use Rattle.starlark_hash.proofs.EntryLemmas.{length-set_value_at}
@@ -21,11 +21,11 @@ module _ {K V : Type 0} where
   pub length-inserted : (eq : K → K → Bool) (es : List (Entry K V)) (key : Hashed K) (value : V) → length (insert_entry eq es key value) ≡ cond (is_none (match_of eq es key)) (length es + 1) (length es)
   length-inserted eq es key value = grind (arith, common_steps, length-set_value_at)
 
--- what a map has when a run begins
+-- the memory of a map when a run begins
 pub HasMemory-begin : {K V : Type 0} (start : Map K V) → HasMemory start (memory_of start) start
 HasMemory-begin start = record { room = omega arith; capacity = omega arith; indexed = refl }
 
--- a map keeps its memory through a command
+-- a map has the memory that the definitions compute, also after a command
 pub HasMemory-after : {K V R : Type 0} (eq : K → K → Bool) (start old new : Map K V) (memory : Memory) (command : Command K V) (reply : Reply K V R) → HasMemory start memory old
     → ((ceiling : ℕ) → ceiling ≤ length old.entries + old.room → ceiling_after eq ceiling old.entries command reply ≤ length new.entries + new.room)
     → new.capacity ≤ max old.capacity (max 4 (2 * length_asked eq old.entries command))
@@ -35,7 +35,7 @@ HasMemory-after eq start old new memory command reply has room capacity indexed 
     record { room = room memory.ceiling has.room; capacity = omega arith; indexed = cc }
 
 module _ {K V R : Type 0} (eq : K → K → Bool) (cmp : K → K → Ordering) (shows : Entry K V → R → Type 0) where
-  -- the list after a command is that of its reply
+  -- the list after a command is the one that its reply determines
   pub Step-entries : (old : List (Entry K V)) (command : Command K V) (reply : Reply K V R) (new end : List (Entry K V))
       → Step eq cmp shows old command reply new → Step eq cmp shows old command reply end → new ≡ end
   Step-entries old Len Done new end p q = absurd p
@@ -50,7 +50,7 @@ module _ {K V R : Type 0} (eq : K → K → Bool) (cmp : K → K → Ordering) (
       (run.0, run.1, Run-of_memory (memory_after eq first old command reply) run.0 commands replies new last run.3)
   Run-of_memory first old commands replies new last run = absurd assumption
 
-  -- and it ends with one memory
+  -- a run with its memory ends with one memory
   pub MemoryRun-last : (first : Memory) (old : List (Entry K V)) (commands : List (Command K V)) (replies : List (Reply K V R)) (new end : List (Entry K V)) (last other : Memory)
       → MemoryRun eq cmp shows first old commands replies new last → MemoryRun eq cmp shows first old commands replies end other → last ≡ other
   MemoryRun-last first old [] [] new end last other p q = p.1 ∙ sym q.1

@@ -1,14 +1,14 @@
 -- Runs on two maps with one list.
 use Rattle.starlark_hash.proofs.Common.{◌≡◌, Bool, List, [], ◌∷◌, refl, sym, subst, ◌∙◌, All-head, All-tail, All, Ordering}
 use Rattle.starlark_hash.specs.Entries.{Entry}
-use Rattle.starlark_runs.proofs.Determined.{Run-determined}
+use Rattle.starlark_runs.proofs.Determinism.{Run-determined}
 use Rattle.starlark_runs.specs.OneList.{AgreeWhere, HaveSameRuns, IsGranted, IsShownOnce, NoneRefused, SameRefused}
 use Rattle.starlark_runs.specs.Run.{Run, is_refusal, refusals}
 use Rattle.starlark_runs.specs.declared.command.Command.{Command}
 use Rattle.starlark_runs.specs.declared.command.Reply.{Reply}
 
 module _ {K V R : Type 0} (eq : K → K → Bool) (cmp : K → K → Ordering) (shows : Entry K V → R → Type 0) where
-  -- two runs of as many commands without a refusal have the same refusals
+  -- two runs of the same commands in which nothing is refused have equal lists of refusals
   refusals-granted : (first second : List (Entry K V)) (commands : List (Command K V)) (rs ss : List (Reply K V R)) (new end : List (Entry K V))
       → Run eq cmp shows first commands rs new → Run eq cmp shows second commands ss end → All IsGranted rs → All IsGranted ss → refusals rs ≡ refusals ss
   refusals-granted first second [] [] [] new end p q all every = refl

@@ -1,4 +1,4 @@
--- What a run takes without a refusal, from the ceiling beside it.
+-- What a run accepts without a refusal, computed from the ceiling beside it.
 use Rattle.starlark_hash.proofs.Common.{◌≡◌, ◌+◌, ◌<◌, ◌≤◌, ℕ, suc, Bool, true, false, List, [], ◌∷◌, ◌++◌, length, Option, refl, arith, remove, Ordering, nat_tests, common_steps, length-reverse}
 use Rattle.starlark_hash.proofs.SortingLemmas.{length-sorted_by}
 use Rattle.starlark_hash.specs.Entries.{Entry, without}
@@ -28,14 +28,14 @@ length-without : {K V : Type 0} (es : List (Entry K V)) (index : Option ℕ) →
 length-without es index = grind (arith, common_steps, length-remove_at_most)
 
 module _ {K V R : Type 0} (eq : K → K → Bool) where
-  -- what drops no index keeps the ceiling
+  -- a command that does not drop an index keeps the ceiling
   ceiling-kept : (c : ℕ) (old : List (Entry K V)) (command : Command K V) (reply : Reply K V R) → drops command ≡ false → c ≤ ceiling_after eq c old command reply
   ceiling-kept c old Len Done keeps = omega arith
   ceiling-kept c old command Done keeps = grind (arith, nat_tests)
   ceiling-kept c old command reply keeps = grind (arith, nat_tests)
 
 module _ {K V R : Type 0} (eq : K → K → Bool) (cmp : K → K → Ordering) (shows : Entry K V → R → Type 0) where
-  -- an insertion lengthens the list by an entry at most, and no other command does; and the ceiling stays above the length
+  -- an insertion lengthens the list by at most one entry, and no other command does; the ceiling is never below the length
   length-after : (old : List (Entry K V)) (command : Command K V) (reply : Reply K V R) (next : List (Entry K V)) → Step eq cmp shows old command reply next
       → (length next ≤ length old + growth command) × ((c : ℕ) → length old ≤ c → length next ≤ ceiling_after eq c old command reply)
   length-after old Len Done next p = absurd p
@@ -78,7 +78,7 @@ module _ {K V R : Type 0} (eq : K → K → Bool) (cmp : K → K → Ordering) (
       AcceptsNext-ceiling (suc n) (memory_after eq memory old command reply) run.0 commands replies new last run.3 (omega arith)
   AcceptsNext-ceiling n memory old commands replies new last run low = tt
 
-  -- what is left of a run is a run, from a memory whose ceiling is above the length
+  -- the rest of a run is a run, from a memory whose ceiling is not below the length
   MemoryRun-rest : (first : Memory) (old : List (Entry K V)) (before after : List (Command K V)) (rs ss : List (Reply K V R)) (new : List (Entry K V)) (last : Memory) (now : List (Entry K V))
       → MemoryRun eq cmp shows first old (before ++ after) (rs ++ ss) new last → Run eq cmp shows old before rs now → length old ≤ first.ceiling
       → (memory : Memory) × (length now ≤ memory.ceiling) × MemoryRun eq cmp shows memory now after ss new last
@@ -103,7 +103,7 @@ module _ {K V R : Type 0} (eq : K → K → Bool) (cmp : K → K → Ordering) (
         let left = rest before after first later now cut cut_replies here in
         AcceptsUpTo-ceiling (length now) left.0 now after later new refuses.0 left.2 left.1
 
-    -- after a reservation the ceiling leaves room for as many
+    -- after a reservation of n the ceiling leaves room for n
     reserved : (n : ℕ) (before after : List (Command K V)) (first later : List (Reply K V R)) (now : List (Entry K V)) → commands ≡ before ++ Reserve n ∷ after → replies ≡ first ++ Done ∷ later
         → Run eq cmp shows start.entries before first now → (memory : Memory) × (length now + n ≤ memory.ceiling) × MemoryRun eq cmp shows memory now after later new refuses.0
     reserved n before after first later now cut cut_replies here =

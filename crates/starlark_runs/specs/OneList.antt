@@ -1,4 +1,4 @@
--- What runs on two maps with one list have in common.
+-- Runs on two maps with one list of entries.
 use Rattle.std.specs.Prelude.{◌≡◌, ◌↔◌, ◌⊎◌, Bool, false, List}
 use Rattle.std.specs.List.{All}
 use Rattle.std.specs.declared.cmp.Ordering.{Ordering}
@@ -13,11 +13,11 @@ module _ {K V R : Type 0} where
   abbrev pub IsGranted : Reply K V R → Type 0
   IsGranted reply = is_refusal reply ≡ false
 
-  -- the same commands are refused in both replies
+  -- the replies refuse the same commands
   abbrev pub SameRefused : List (Reply K V R) → List (Reply K V R) → Type 0
   SameRefused replies others = refusals replies ≡ refusals others
 
-  -- no command is refused in either
+  -- neither list of replies has a refusal
   abbrev pub NoneRefused : List (Reply K V R) → List (Reply K V R) → Type 0
   NoneRefused replies others = All IsGranted replies × All IsGranted others
 
@@ -38,6 +38,6 @@ module _ {K V R : Type 0} (eq : K → K → Bool) (cmp : K → K → Ordering) (
       → Run eq cmp shows first commands replies new → Run eq cmp shows second commands others end → so replies others
       → (replies ≡ others) × (new ≡ end)
 
-  -- a map on which no command was begun, or all commands are done
+  -- either no command was begun on the map, or all are done
   abbrev pub RunsOrStays : Map K V → Map K V → List (Command K V) → Type 0
   RunsOrStays old new commands = (new ≡ old) ⊎ ((replies : List (Reply K V R)) × Run eq cmp shows old.entries commands replies new.entries)

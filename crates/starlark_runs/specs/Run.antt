@@ -1,4 +1,4 @@
--- What commands do to a list of entries.
+-- The effect of commands on a list of entries.
 use Rattle.std.specs.Prelude.{◌≡◌, ◌-◌, Bool, true, false, List, [], ◌∷◌, ◌++◌, length, map, remove, reverse, slice_get, Option, Some, None, ⊤}
 use Rattle.std.specs.Borrow.{Bor}
 use Rattle.std.specs.Fn.{Shared}
@@ -18,11 +18,11 @@ is_refusal (Refused key value) = true
 is_refusal NoMemory = true
 is_refusal reply = false
 
--- for each reply whether it is a refusal: the refusals of a run are read off its replies
+-- for each reply whether it is a refusal
 abbrev pub refusals : {K V R : Type 0} → List (Reply K V R) → List Bool
 refusals replies = map is_refusal replies
 
--- this is shown of the entry where there is one, and nothing where there is none
+-- r is what is shown of the entry, or none if there is no entry
 abbrev pub IsShown : {E R : Type 0} → (E → R → Type 0) → Option E → Option R → Type 0
 IsShown shows None None = ⊤
 IsShown shows (Some e) (Some r) = shows e r
@@ -38,8 +38,9 @@ entry_shown eq es command = None
 
 module _ {K V R : Type 0} (eq : K → K → Bool) (cmp : K → K → Ordering) (shows : Entry K V → R → Type 0) where
   -- from the list `old` a map may give this reply to the command and go on to the list `new`. There is one case for each
-  -- command and each reply that it may have; the last case excludes all others. `Refused` may answer an `Insert` of a new key
-  -- alone; `NoMemory` a `Reserve`, or a `Sort` of a list whose keys do not ascend. Refusals leave the list
+  -- command and each reply that it may have; the last case excludes all others. `Refused` may only answer an `Insert` of a
+  -- new key, and `NoMemory` only a `Reserve`, or a `Sort` of a list whose keys do not ascend. Refusals leave the list
+  -- unchanged
   abbrev pub Step : List (Entry K V) → Command K V → Reply K V R → List (Entry K V) → Type 0
   Step old (Look key) (Found found) new =
       (option_map (λ p. p.0) found ≡ match_of eq old key)
@@ -59,7 +60,7 @@ module _ {K V R : Type 0} (eq : K → K → Bool) (cmp : K → K → Ordering) (
   Step old Pop (Taken taken) new = (taken ≡ option_map pair_of (slice_get old (length old - 1))) × (new ≡ remove old (length old - 1))
   Step old Clear Done new = new ≡ []
   Step old Reverse Done new = new ≡ reverse old
-  -- room is made or refused, or an index dropped: the entries stay
+  -- room is made or refused, or the hash index is dropped: the entries are unchanged
   Step old (Reserve n) Done new = new ≡ old
   Step old (Reserve n) NoMemory new = new ≡ old
   Step old DropIndex Done new = new ≡ old
@@ -75,8 +76,8 @@ module _ {K V R : Type 0} (eq : K → K → Bool) (cmp : K → K → Ordering) (
   Run old (command ∷ commands) (reply ∷ replies) new = (next : List (Entry K V)) × Step old command reply next × Run next commands replies new
   Run old commands replies new = ⊥
 
-  -- where an entry is shown in one way only, every run of these commands on this list with these refusals gives these replies
-  -- and leads to this list. So refusals count as inputs, and nothing else is left open
+  -- if an entry is shown in one way only, every run of these commands on this list with these refusals gives these replies
+  -- and leads to this list. Refusals count as inputs, and everything else is determined
   abbrev pub IsDetermined : List (Entry K V) → List (Command K V) → List (Reply K V R) → List (Entry K V) → Type 0
   IsDetermined old commands replies new =
       ((e : Entry K V) (r s : R) → shows e r → shows e s → r ≡ s)
@@ -88,14 +89,14 @@ module _ {F K V R : Type 0} (g : Shared F (Bor K × (Bor V × Unit {0})) R) wher
   abbrev pub TakesEntry : F → Entry K V → Type 0
   TakesEntry look e = (key : Bor K) (value : Bor V) → key.now ≡ entry_key e → value.now ≡ entry_value e → g.pre look (key, (value, tt))
 
-  -- such a call may give r
+  -- a call of `look` at references to the entry's key and value may return r
   pub record Shows (look : F) (e : Entry K V) (r : R) : Type 0 where
     pub key : Bor K
     pub value : Bor V
     pub points : (key.now ≡ entry_key e) × (value.now ≡ entry_value e)
     pub met : g.post look (key, (value, tt)) r
 
-  -- `look` may be called on each entry that a command shows, once those before it are done; nothing is asked of any other entry
+  -- `look` may be called on each entry that a command shows, after those before it are done; the other entries do not matter
   pub record CanShow (eq : K → K → Bool) (cmp : K → K → Ordering) (look : F) (start : List (Entry K V)) (commands : List (Command K V)) : Type 0 where
     pub at : (before : List (Command K V)) (command : Command K V) (after : List (Command K V)) (replies : List (Reply K V R)) (now : List (Entry K V)) (e : Entry K V)
         → commands ≡ before ++ command ∷ after → Run eq cmp (Shows look) start before replies now

@@ -1,4 +1,4 @@
-//! Maps made of many entries at once.
+//! Maps that are made of many entries at once.
 ghost use Rattle.std.specs.Prelude.{◌≡◌, ◌*◌, ◌≤◌, max, nat_lt, length, [], ◌∷◌, IfOk, IsOk};
 ghost use Rattle.starlark_small.specs.Collect.{insert_all, own_entry};
 ghost use Rattle.starlark_small.specs.Index.{unindexed};
@@ -8,9 +8,9 @@ use starlark_small::{SmallMap, smallmap};
 use std::alloc::{AllocError, Global};
 use std::hash::Hash;
 
-/// The entries of a map, taken by `into_iter_hashed` and collected by `from_iter_hashed`, are the same list, where that
-/// is not refused. Capacity and index are those of a map that is made anew: the capacity is at most 4 or twice the
-/// length, and there is an index exactly where the list is longer than the threshold.
+/// Collecting the entries of a map, taken by `into_iter_hashed`, with `from_iter_hashed` gives the same list, if it is not
+/// refused. Capacity and hash index are those of a new map: the capacity is at most 4 or twice the length, and there is a
+/// hash index exactly if the list is longer than the threshold.
 pub fn collected_anew<K: Eq + Drop, V: Drop>(
     alloc: Global,
     map: SmallMap<K, V>,
@@ -34,8 +34,8 @@ pub fn written_in_order<K: Eq + Hash + Drop, V: Drop>(
     smallmap![alloc; first.0 => first.1, second.0 => second.1, third.0 => third.1]
 }
 
-/// What `smallmap!` inserts after its reservation, here three entries in a map with room for them, in its order, is
-/// never refused, so only the reservation can be.
+/// After its reservation `smallmap!` inserts its entries, here three, in their order into a map with room for them. None of
+/// these insertions is refused, so only the reservation can be.
 pub fn written_with_room<K: Eq + Hash + Drop, V: Drop>(
     map: SmallMap<K, V>,
     first: (K, V),

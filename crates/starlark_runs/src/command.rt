@@ -1,8 +1,8 @@
-//! The commands that a run does on a map, and its replies.
+//! The commands of a run on a map, and their replies.
 
 use starlark_hash::Hashed;
 
-/// What a run is to do next.
+/// A command of a run.
 #[derive(Debug, Drop)]
 pub enum Command<K, V> {
     /// Looks up a hash and key. The reply is `Found`.
@@ -15,10 +15,9 @@ pub enum Command<K, V> {
     Last,
     /// Asks for the length. The reply is `Count`.
     Len,
-    /// Inserts as `SmallMap::insert_hashed` does. The reply is `Old`, or `Refused` for a new key that found no memory.
+    /// Inserts by `SmallMap::insert_hashed`. The reply is `Old`, or `Refused` for a new key for which no memory was found.
     Insert(Hashed<K>, V),
-    /// Replaces the value of the entry under this hash and key. Where there is none the value is dropped. The
-    /// reply is `Old`.
+    /// Replaces the value of the entry under this hash and key. If there is none, the value is dropped. The reply is `Old`.
     Change(Hashed<K>, V),
     /// Removes the entry under this hash and key. The reply is `Taken`.
     Remove(Hashed<K>),
@@ -28,14 +27,13 @@ pub enum Command<K, V> {
     Pop,
     /// Removes each entry. The reply is `Done`.
     Clear,
-    /// Turns the order of the entries round. The reply is `Done`.
+    /// Reverses the order of the entries. The reply is `Done`.
     Reverse,
-    /// Makes room as `SmallMap::reserve` does. The reply is `Done`, or `NoMemory`.
+    /// Makes room by `SmallMap::reserve`. The reply is `Done`, or `NoMemory`.
     Reserve(usize),
-    /// Drops the index as `SmallMap::maybe_drop_index` does. The reply is `Done`.
+    /// Drops the hash index by `SmallMap::maybe_drop_index`. The reply is `Done`.
     DropIndex,
-    /// Sorts by key as `SmallMap::sort_keys` does. The reply is `Done`, or `NoMemory` where the keys do not
-    /// ascend already.
+    /// Sorts by key by `SmallMap::sort_keys`. The reply is `Done`, or `NoMemory` if the keys do not ascend already.
     Sort,
 }
 
@@ -48,9 +46,9 @@ pub enum Reply<K, V, R> {
     Shown(Option<R>),
     /// The number of entries.
     Count(usize),
-    /// The value that stood under the hash and key before, if there was one.
+    /// The value that was stored under the hash and key before, if there was one.
     Old(Option<V>),
-    /// No memory was found for the new key. It comes back, and the list is as it was.
+    /// No memory was found for the new key. Key and value come back, and the list is unchanged.
     Refused(Hashed<K>, V),
     /// The key and the value that were removed, if there were any.
     Taken(Option<(K, V)>),
@@ -58,6 +56,6 @@ pub enum Reply<K, V, R> {
     TakenHashed(Option<(Hashed<K>, V)>),
     /// The command is done.
     Done,
-    /// No memory was found, to sort or to make room. The list is as it was.
+    /// No memory was found, to sort or to make room. The list is unchanged.
     NoMemory,
 }

@@ -1,5 +1,5 @@
-//! The commands of a map and their runs, over public contracts alone, and laws of runs and of lists of entries. A law is the
-//! contract of a function.
+//! The commands of a map and their runs, over public contracts alone, and laws of runs and of lists of entries. Each law is
+//! the contract of a function.
 #![tactic(auto)]
 
 pub mod collection;

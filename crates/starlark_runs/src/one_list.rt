@@ -1,4 +1,4 @@
-//! The law that an index never shows in a reply.
+//! The law that the hash index never shows in a reply.
 ghost use Rattle.std.specs.Prelude.{◌≡◌, IfOk, OnErr};
 ghost use Rattle.starlark_runs.specs.OneList.{AgreeWhere, HaveSameRuns, IsShownOnce, NoneRefused, RunsOrStays, SameRefused};
 ghost use Rattle.starlark_runs.specs.Run.{CanShow, Run, Shows};
@@ -8,9 +8,9 @@ use crate::runs::run;
 use starlark_small::SmallMap;
 use std::alloc::{AllocError, Global};
 
-/// Two maps with the same entries have the same runs, with an index or without: what one may reply the other may, and
-/// both come to the same list. Where the same commands are refused memory on both, or none is on either, the replies
-/// are equal, if `look` shows an entry in one way only.
+/// Two maps with the same entries have the same runs, with a hash index or without: each reply that one map may give the
+/// other may give, and both end with the same list. If the same commands are refused memory on both, or none is on either,
+/// the replies are equal, if `look` shows an entry in one way only.
 pub fn index_never_shows<K: Ord, V, R, F: Fn(&K, &V) -> R>(
     first: &SmallMap<K, V>,
     second: &SmallMap<K, V>,
@@ -21,10 +21,10 @@ pub fn index_never_shows<K: Ord, V, R, F: Fn(&K, &V) -> R>(
     ensures none_refused { first.now.entries ≡ second.now.entries → IsShownOnce (Shows F.Fn look.now) → AgreeWhere K.eq K.cmp (Shows F.Fn look.now) NoneRefused first.now.entries second.now.entries }
 {}
 
-/// Does the same commands on two maps with the same entries, of which one may have an index and the other not, with one
-/// `look` that shows an entry in one way only. Where the same commands are refused memory on both, the replies are
-/// equal, and both maps have the same entries afterwards. Where memory for replies is refused, the second map is as it
-/// was, and so is the first, or its commands are done.
+/// Does the same commands on two maps with the same entries, of which one may have a hash index and the other not, with one
+/// `look` that shows an entry in one way only. If the same commands are refused memory on both, the replies are equal, and
+/// both maps have the same entries afterwards. If memory for replies is refused, the second map is unchanged, and on the
+/// first either no command was begun or all are done.
 pub fn replies_agree<K: Ord + Drop, V: Drop, R: Drop, F: Fn(&K, &V) -> R>(
     alloc: Global,
     first: &mut SmallMap<K, V>,

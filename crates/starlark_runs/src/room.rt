@@ -1,4 +1,4 @@
-//! The laws that a map takes again, in a run, what it has held or what was reserved.
+//! The laws that a map accepts again, in a run, as many entries as it has held or as were reserved.
 ghost use Rattle.std.specs.Prelude.{◌≡◌, ◌+◌, [], length, IfOk, IsOk, OnErr};
 ghost use Rattle.starlark_runs.specs.Room.{AcceptsReserved, AcceptsUpTo, AcceptsWhatItHeld, AcceptsWhatItReserved};
 ghost use Rattle.starlark_runs.specs.Run.{CanShow, Run, Shows};
@@ -8,10 +8,9 @@ use crate::runs::run;
 use starlark_small::SmallMap;
 use std::alloc::{AllocError, Global};
 
-/// Does the commands as `run` does. A map that has held n entries, or for which n were reserved, refuses no insertion
-/// that leaves it at n entries or fewer, whatever was removed, turned, sorted or cleared between, until a `DropIndex`.
-/// That holds from the start, where length and room are as many, and from each command on. A run that is refused leaves
-/// the map as it was.
+/// Does the commands by `run`. A map that has held n entries, or for which n were reserved, refuses no insertion that
+/// leaves it at n entries or fewer, whatever was removed, reversed, sorted or cleared in between, until a `DropIndex`. This
+/// holds from the start, for length plus room, and from each command on. A run that is refused leaves the map unchanged.
 pub fn held_room_stays<K: Ord + Drop, V: Drop, R: Drop, F: Fn(&K, &V) -> R>(
     alloc: Global,
     map: &mut SmallMap<K, V>,
@@ -36,8 +35,8 @@ where
     Ok(replies)
 }
 
-/// Does the commands as `run` does. After a `Reserve(n)` that is done, the next n insertions are not refused, whatever
-/// stands between them, until a `DropIndex`. A run that is refused leaves the map as it was.
+/// Does the commands by `run`. After a `Reserve(n)` that is done, the next n insertions are not refused, whatever commands
+/// come in between, until a `DropIndex`. A run that is refused leaves the map unchanged.
 pub fn reserved_insertions_succeed<K: Ord + Drop, V: Drop, R: Drop, F: Fn(&K, &V) -> R>(
     alloc: Global,
     map: &mut SmallMap<K, V>,

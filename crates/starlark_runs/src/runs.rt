@@ -37,7 +37,7 @@ fn shown_at<K: Eq, V, R, F: Fn(&K, &V) -> R>(map: &SmallMap<K, V>, i: usize, loo
     Some(look(key, value))
 }
 
-// Replaces the value under a hash and key, and answers the old one. Where there is none the value is dropped.
+// Replaces the value under a hash and key, and returns the old one. If there is none, the value is dropped.
 #[tactic(auto, using(starlark_small::proofs::CallerLookup::look_ups))]
 fn change<K: Eq, V: Drop>(map: &mut SmallMap<K, V>, key: &Hashed<K>, value: V) -> Option<V>
     ensures old { result ≡ value_at map.old.entries (match_of K.eq map.old.entries key.now) }
@@ -50,7 +50,7 @@ fn change<K: Eq, V: Drop>(map: &mut SmallMap<K, V>, key: &Hashed<K>, value: V) -
     }
 }
 
-// One command.
+// Does one command.
 #[tactic(auto, using(starlark_small::proofs::CallerLookup::look_ups))]
 fn step<K: Ord + Drop, V: Drop, R, F: Fn(&K, &V) -> R>(
     map: &mut SmallMap<K, V>,
@@ -101,7 +101,7 @@ fn step<K: Ord + Drop, V: Drop, R, F: Fn(&K, &V) -> R>(
     }
 }
 
-// Does the commands in order, and puts their replies into an empty list that has room for them.
+// Does the commands in order, and pushes their replies onto an empty list that has room for them.
 fn run_in<K: Ord + Drop, V: Drop, R, F: Fn(&K, &V) -> R>(
     map: &mut SmallMap<K, V>,
     commands: Vec<Command<K, V>>,
@@ -119,15 +119,15 @@ fn run_in<K: Ord + Drop, V: Drop, R, F: Fn(&K, &V) -> R>(
     }
 }
 
-/// Does the commands in order on the map, and answers their replies: those of one plain list, and of every run with the
-/// same refusals. `look` gives the part of an entry that a reply shows. It need be callable on those entries alone that
-/// commands show.
+/// Does the commands in order on the map, and returns their replies. They are those of one plain list, and of every run
+/// with the same refusals. `look` returns the part of an entry that a reply shows. It must be callable only on the entries
+/// that commands show.
 ///
-/// Memory for the replies is asked for before the first command: where it is not found no command is done. What needs
-/// no memory is not refused: a run of no commands, and in a run an insertion or a reservation below the ceiling, which
-/// is what lengths and reservations before it have made sure of. Afterwards length plus room is at least the last
-/// ceiling. The capacity is at most the largest of the one before, 4 and twice the greatest length that was asked for.
-/// There is an index exactly where commands and replies leave one.
+/// Memory for the replies is asked for before the first command: if it is not found, no command is done. What needs no
+/// memory is not refused: a run of no commands, and in a run an insertion or a reservation below the ceiling, which is
+/// computed from the lengths and reservations before it. Afterwards length plus room is at least the last ceiling. The
+/// capacity is at most the largest of the one before, 4 and twice the greatest length that was asked for. There is a hash
+/// index exactly if commands and replies leave one.
 pub fn run<K: Ord + Drop, V: Drop, R: Drop, F: Fn(&K, &V) -> R>(
     alloc: Global,
     map: &mut SmallMap<K, V>,
@@ -143,8 +143,8 @@ where
     ensures determined { IfOk result (λ replies.
         IsDetermined K.eq K.cmp (Shows F.Fn look) map.old.entries commands.items replies.items map.new.entries) }
 
-    // An insertion or a reservation is refused only past the ceiling. The run ends with the last ceiling, a
-    // capacity for what was asked, and an index where it has left one.
+    // An insertion or a reservation is refused only past the ceiling. The run ends with the last ceiling, with a capacity
+    // for what was asked, and with a hash index if the commands leave one.
     ensures refused { IfOk result (λ replies.
         RefusesPastCeiling K.eq K.cmp (Shows F.Fn look) map.old commands.items replies.items map.new.entries) }
     ensures room { IfOk result (λ replies.

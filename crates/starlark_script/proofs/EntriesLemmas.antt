@@ -1,4 +1,4 @@
--- Entries whose keys are seen as bytes: the words on entries say the same of them.
+-- Entries whose keys are seen as bytes. The definitions on entries say of these what they say of the entries with strings.
 use Rattle.starlark_hash.proofs.Common.{◌≡◌, ℕ, zero, suc, ◌-◌, Bool, ℤ, List, [], ◌∷◌, ◌++◌, length, Option, Some, None, refl, sym, ap, ◌∙◌, remove, reverse, slice_get, string_bytes, option_map, option_map_or, bytes_eq, String, Global, length-map, slice_get-map, none-some}
 use Rattle.std.specs.String.{string_cmp}
 use Rattle.starlark_hash.specs.declared.hashed.Hashed.{Hashed}
@@ -20,7 +20,7 @@ pub position_of-entries_of : (es : List (Entry (String Global) ℤ)) (hash : Sta
     → position_of hash passes (entries_of es) ≡ position_of hash (λ key. passes (string_bytes key)) es
 position_of-entries_of es hash passes = position-map shown_entry _ es
 
--- and the same value there
+-- the value at an index is the value there in the entries seen as bytes
 pub value_at-entries_of : (es : List (Entry (String Global) ℤ)) (index : Option ℕ) → value_at (entries_of es) index ≡ value_at es index
 value_at-entries_of es None = refl
 value_at-entries_of es (Some i) = ap (option_map entry_value) (slice_get-map shown_entry es i) ∙ same (slice_get es i)
@@ -58,7 +58,7 @@ insert_entry-entries_of es key value =
     by None = sym (entries_of-push es (key, value))
     by (Some i) = set_value_at-entries_of es i value
 
--- so is the insertion of a string that is shown as this key
+-- inserting a string that is shown as this key is inserting the key
 pub inserted : (es new : List (Entry (String Global) ℤ)) (key : Hashed (String Global)) (shown : Key) (value : ℤ)
     → new ≡ insert_entry (λ a b. bytes_eq (string_bytes a) (string_bytes b)) es key value → hash_of key ≡ hash_of shown → string_bytes (key_of key) ≡ key_of shown
     → entries_of new ≡ insert_entry bytes_eq (entries_of es) shown value
@@ -67,7 +67,7 @@ inserted es new key shown value e h k =
     ∙ ap (λ hash. insert_entry bytes_eq (entries_of es) (hashed hash (string_bytes (key_of key))) value) h
     ∙ ap (λ text. insert_entry bytes_eq (entries_of es) (hashed (hash_of shown) text) value) k
 
--- the value under a string that is shown as this key
+-- the value under a string that is shown as this key is the value under the key
 pub value-shown : (es : List (Entry (String Global) ℤ)) (key : Hashed (String Global)) (shown : Key) → hash_of key ≡ hash_of shown → string_bytes (key_of key) ≡ key_of shown
     → found (λ b. bytes_eq (string_bytes (key_of key)) (string_bytes b)) (hash_of key) es ≡ value_at (entries_of es) (match_of bytes_eq (entries_of es) shown)
 value-shown es key shown h k =
@@ -75,7 +75,7 @@ value-shown es key shown h k =
     ∙ ap (λ hash. value_at (entries_of es) (position_of hash (bytes_eq (string_bytes (key_of key))) (entries_of es))) h
     ∙ ap (λ text. value_at (entries_of es) (position_of (hash_of shown) (bytes_eq text) (entries_of es))) k
 
--- a value is written by bytes under the string with these bytes, where there is one
+-- writing a value by bytes writes it under the string with these bytes, if there is one
 pub written : (es : List (Entry (String Global) ℤ)) (hash : StarlarkHashValue) (bytes : List ℕ) (old value : ℤ)
     → Some old ≡ found (λ key. bytes_eq bytes (string_bytes key)) hash es
     → entries_of (with_value es (position_of hash (λ key. bytes_eq bytes (string_bytes key)) es) value) ≡ insert_entry bytes_eq (entries_of es) (hashed hash bytes) value
@@ -88,7 +88,7 @@ written es hash bytes old value h =
     by None e = absurd (none-some old (sym e))
     by (Some i) e = sym (set_value_at-entries_of es i value)
 
--- no string with these bytes, no such bytes
+-- if no key is the string with these bytes, no key has these bytes
 pub lacking : (es : List (Entry (String Global) ℤ)) (hash : StarlarkHashValue) (bytes : List ℕ)
     → None ≡ found (λ key. bytes_eq bytes (string_bytes key)) hash es → position_of hash (bytes_eq bytes) (entries_of es) ≡ None
 lacking es hash bytes none = position_of-entries_of es hash (bytes_eq bytes) ∙ position_of-found (λ key. bytes_eq bytes (string_bytes key)) hash es (sym none)
@@ -104,7 +104,7 @@ removed es new hash bytes e =
     by None = refl
     by (Some i) = remove-map shown_entry es i
 
--- without the last entry
+-- removing the last entry removes the last one seen as bytes
 pub popped : (es new : List (Entry (String Global) ℤ)) → new ≡ remove es (length es - 1) → entries_of new ≡ remove (entries_of es) (length (entries_of es) - 1)
 popped es new e = ap entries_of e ∙ sym (remove-map shown_entry es (length es - 1)) ∙ ap (λ n. remove (entries_of es) (n - 1)) (sym (length-map es shown_entry))
 

@@ -28,7 +28,7 @@ fields-cut text a rest e h = ap fields_of e ∙ slice_split_at (λ b. b == 32) a
 fields-whole : (text : List ℕ) → HasNoSpace text → fields_of text ≡ text ∷ []
 fields-whole text h = slice_split_none (λ b. b == 32) text (untested text h)
 
--- what a cut at the first space says of the fields
+-- the fields of a text, from a cut at its first space
 pub cut-fields : (text : List ℕ) (r : Option (Bor (List ℕ) × Bor (List ℕ)))
     → MatchOption r (HasNoSpace text) (λ x. (text ≡ x.0.now ++ (32 ∷ x.1.now)) × HasNoSpace x.0.now)
     → MatchOption r (fields_of text ≡ text ∷ []) (λ x. fields_of text ≡ x.0.now ∷ fields_of x.1.now)
@@ -53,7 +53,7 @@ hash-ascii key h = IsAscii-decimal (hash_number (hash_of key)) (let small = h.ha
 below : (b : ℕ) → nat_lt b 128 ≡ true → b < 128
 below b e = grind (arith, nat_tests)
 
--- a word whose bytes are seen
+-- a word whose bytes the proofs can compute with
 abbrev small : List ℕ → Bool
 small [] = true
 small (b ∷ bs) = nat_lt b 128 && small bs

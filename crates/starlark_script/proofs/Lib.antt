@@ -1,11 +1,11 @@
-pub mod Breaks
-pub mod Windows
+pub mod LineBreaks
+pub mod WindowBytes
 pub mod Numbers
 pub mod FieldFacts
-pub mod OneReading
-pub mod Writes
+pub mod UniqueReading
+pub mod TextWrites
 pub mod LineFacts
-pub mod Going
+pub mod ScriptProgress
 pub mod Images
 pub mod EntriesLemmas
 pub mod Results

@@ -1,4 +1,4 @@
--- Numbers in their one spelling.
+-- Numbers in their only spelling.
 use Rattle.starlark_hash.proofs.Common.{◌≡◌, ◌≢◌, ℕ, zero, suc, ◌<◌, ◌^◌, Bool, true, false, ℤ, List, ◌∷◌, length, get_or, drop, Result, Ok, Err, refl, sym, ap, ◌∙◌, arith, length-drop, lit<, IsTrue, IfSome, IfNone, ◌==◌, w64, drop_more, get_or-drop, nat_tests}
 use Rattle.std.proofs.Common.{pos, negsuc}
 use Rattle.std.specs.Prelude.{decimal, FitsSigned, neg_ℤ}
@@ -44,7 +44,7 @@ plain-none bs b says off n small e =
     let plain : IsPlain bs = rw e (plain-decimal n (omega arith)) in
     let yes = says plain in cc
 
--- signed
+-- the magnitude of a signed number of 64 bits is below 2^63
 pub fits-mag : (z : ℤ) → FitsSigned w64 z → mag z < 2 ^ 63
 fits-mag (pos n) h = omega arith
 fits-mag (negsuc n) h = omega arith

@@ -1,4 +1,4 @@
--- How a fault ends the program.
+-- The exit status and the text of a fault.
 use Rattle.std.specs.Prelude.{ℕ, List, ◌++◌, codes, decimal}
 use Rattle.starlark_script.specs.declared.fault.PlayFault.{PlayFault}
 use Rattle.starlark_script.specs.declared.fault.PlayFault.TheVariants.{BadLine, Memory, Io}

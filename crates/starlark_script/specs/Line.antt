@@ -10,7 +10,7 @@ use Rattle.starlark_hash.specs.HashValue.{hash_number, hash_of, key_of}
 abbrev pub Key : Type 0
 Key = Hashed (List ℕ)
 
--- a line of a script, its texts as bytes and its hashes and numbers as numbers
+-- a line of a script, with its texts as bytes and its hashes and numbers as numbers
 pub data Line : Type 0 where
   Put : (key : Key) (value : ℤ) → Line
   Get : (key : Key) → Line
@@ -25,16 +25,16 @@ pub data Line : Type 0 where
   Len : Line
   Walk : Line
 
--- the fields of a text: what stands between its spaces, empty pieces too
+-- the fields of a text: the pieces between its spaces, including empty ones
 abbrev pub fields_of : List ℕ → List (List ℕ)
 fields_of text = slice_split (λ b. b == 32) text
 
--- the number of the key's hash, as it is written
+-- the number of the key's hash, as Rust prints it
 abbrev pub hash_text : Key → List ℕ
 hash_text key = decimal (hash_number (hash_of key))
 
--- how a line is written, one field each: its word; then the number of the hash, the key, and the value; or an index; or how
--- much room. Numbers are as Rust prints them
+-- the fields by which a line is written: its word; then the number of the hash, the key, and the value; or an index; or an
+-- amount of room. Numbers are as Rust prints them
 abbrev pub fields : Line → List (List ℕ)
 fields (Put key value) = codes "put" ∷ hash_text key ∷ key_of key ∷ signed_decimal value ∷ []
 fields (Get key) = codes "get" ∷ hash_text key ∷ key_of key ∷ []
@@ -55,7 +55,7 @@ pub record IsKey (key : Key) : Type 0 where
   pub some : 0 < length (key_of key)
   pub visible : All (λ b. (33 ≤ b) × (b ≤ 126)) (key_of key)
 
--- the line's parts are such as a script may have: its key `IsKey`; its value has 64 bits; its index, or its room, is at most
+-- the line's parts may occur in a script: its key is `IsKey`; its value has 64 bits; its index, or its room, is at most
 -- 1000000
 abbrev pub IsLawful : Line → Type 0
 IsLawful (Put key value) = IsKey key × FitsSigned w64 value
@@ -71,17 +71,17 @@ IsLawful Slim = Unit {0}
 IsLawful Len = Unit {0}
 IsLawful Walk = Unit {0}
 
--- the text is that of the line: it has at most 1000 bytes, the line's parts are lawful, and the text's fields are exactly those
--- that the line is written with. There is no parser in this definition
+-- the text is the text of the line: it has at most 1000 bytes, the line's parts are lawful, and the text's fields are
+-- exactly those of the line. There is no parser in this definition
 pub record IsTextOf (text : List ℕ) (line : Line) : Type 0 where
   pub short : length text ≤ 1000
   pub lawful : IsLawful line
   pub written : fields_of text ≡ fields line
 
--- the text is that of no line
+-- the text is the text of no line
 abbrev pub IsBad : List ℕ → Type 0
 IsBad text = (line : Line) → ¬ (IsTextOf text line)
 
--- no text is that of two lines
+-- no text is the text of two lines
 abbrev pub TextsAreOfOne : Type 0
 TextsAreOfOne = (text : List ℕ) (k l : Line) → IsTextOf text k → IsTextOf text l → k ≡ l

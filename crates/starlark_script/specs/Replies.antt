@@ -1,4 +1,4 @@
--- What is answered to the lines of a script.
+-- The replies to the lines of a script.
 use Rattle.std.specs.Prelude.{◌≡◌, ℕ, ◌-◌, ◌<◌, ℤ, List, [], ◌∷◌, ◌++◌, length, remove, reverse, slice_get, Option, Some, None, codes, decimal, flat_map}
 use Rattle.std.specs.Cmp.Lexicographic.{slice_cmp}
 use Rattle.std.specs.Fmt.{signed_decimal}
@@ -11,12 +11,12 @@ use Rattle.starlark_hash.specs.Insert.{insert_entry}
 use Rattle.starlark_hash.specs.Sort.{Ascends, sorted_by_key}
 use Rattle.starlark_script.specs.Line.{Line, Put, Get, Del, At, Pop, Rev, Sort, Clear, Reserve, Slim, Len, Walk, hash_text}
 
--- the entries of a script's map in order: hash, bytes of the key, and value. The words on lists of entries are used on them as
--- they stand, with equality of bytes
+-- the entries of a script's map in order: hash, bytes of the key, and value. The definitions on lists of entries apply to
+-- them, with equality of bytes
 abbrev pub Entries : Type 0
 Entries = List (Entry (List ℕ) ℤ)
 
--- the order of keys: the first byte that differs decides, and a key comes before those that go on from it
+-- the order of keys: the first byte that differs decides, and a key comes before its extensions
 abbrev pub bytes_cmp : List ℕ → List ℕ → Ordering
 bytes_cmp a b = slice_cmp nat_cmp a b
 
@@ -38,7 +38,7 @@ pair_text (Some p) = ended (codes "some " ++ p.0 ++ codes " " ++ signed_decimal 
 abbrev pub entry_text : Entry (List ℕ) ℤ → List ℕ
 entry_text e = ended (hash_text e.0 ++ codes " " ++ entry_key e ++ codes " " ++ signed_decimal (entry_value e))
 
--- what is answered to a line at these entries, line feeds included
+-- the reply to a line at these entries, including line feeds
 abbrev pub reply : Entries → Line → List ℕ
 reply es (Put key value) = value_text (value_at es (match_of bytes_eq es key))
 reply es (Get key) = value_text (value_at es (match_of bytes_eq es key))
@@ -68,20 +68,20 @@ after es Slim = es
 after es Len = es
 after es Walk = es
 
--- the lines for which memory may be asked at these entries: `put` of a key that is not there, `sort` where the keys do not
--- ascend, and `reserve` of more than 0
+-- the lines for which memory may be asked at these entries: `put` of a new key, `sort` of keys that do not ascend, and
+-- `reserve` of more than 0
 abbrev pub MayNeedMemory : Entries → Line → Type 0
 MayNeedMemory es (Put key value) = match_of bytes_eq es key ≡ None
 MayNeedMemory es Sort = ¬ (Ascends bytes_cmp es)
 MayNeedMemory es (Reserve additional) = 0 < additional
 MayNeedMemory es line = ⊥
 
--- the entries after lines in turn
+-- the entries after these lines in turn
 abbrev pub entries_after : Entries → List Line → Entries
 entries_after es [] = es
 entries_after es (l ∷ ls) = entries_after (after es l) ls
 
--- the replies to lines in turn, at these entries
+-- the replies to these lines in turn, from these entries on
 abbrev pub replies : Entries → List Line → List ℕ
 replies es [] = []
 replies es (l ∷ ls) = reply es l ++ replies (after es l) ls

@@ -1,4 +1,4 @@
--- What the values of the code stand for.
+-- What the values of the code represent in the definitions.
 use Rattle.std.specs.Prelude.{◌≡◌, ℕ, ◌<◌, ◌≤◌, List, [], ◌∷◌, length, Option, All, MatchOption}
 use Rattle.starlark_hash.specs.declared.hashed.Hashed.{Hashed}
 use Rattle.starlark_hash.specs.declared.text_key.TextKey.{TextKey}
@@ -9,11 +9,11 @@ use Rattle.starlark_script.specs.declared.line.Line.TheVariants.{Put, Get, Del, 
 use Rattle.starlark_script.specs.declared.line.Fields.{Fields}
 use Rattle.starlark_script.specs.declared.line.Fields.TheVariants.{One, Two, Three, Four, More}
 
--- a key that a text stands for
+-- the key that a hashed text represents
 abbrev pub shown_key : Hashed TextKey → script.Key
 shown_key key = hashed (hash_of key) (key_of key).0.now
 
--- a line of the program as a line of the definitions
+-- the line of the definitions that a line of the program represents
 abbrev pub shown : Line → script.Line
 shown (Put key value) = script.Put (shown_key key) value
 shown (Get key) = script.Get (shown_key key)
@@ -28,7 +28,7 @@ shown Slim = script.Slim
 shown Len = script.Len
 shown Walk = script.Walk
 
--- these are the fields
+-- the fields of the program are these fields of the definitions
 abbrev pub AreFields : Fields → List (List ℕ) → Type 0
 AreFields (One a) fs = fs ≡ a.now ∷ []
 AreFields (Two a b) fs = fs ≡ a.now ∷ b.now ∷ []
@@ -36,11 +36,11 @@ AreFields (Three a b c) fs = fs ≡ a.now ∷ b.now ∷ c.now ∷ []
 AreFields (Four a b c d) fs = fs ≡ a.now ∷ b.now ∷ c.now ∷ d.now ∷ []
 AreFields More fs = 4 < length fs
 
--- one or more visible ASCII characters
+-- the text is one or more visible ASCII characters
 abbrev pub IsVisible : List ℕ → Type 0
 IsVisible text = (0 < length text) × All (λ b. (33 ≤ b) × (b ≤ 126)) text
 
--- the fields spell this key; where there is none, no key is spelled so
+-- the fields spell this key; if there is none, they spell no key
 abbrev pub IsKeyIn : List ℕ → List ℕ → Option (Hashed TextKey) → Type 0
 IsKeyIn hash text read =
     MatchOption read ((key : script.Key) → script.IsKey key → hash ≡ script.hash_text key → text ≡ key_of key → ⊥)

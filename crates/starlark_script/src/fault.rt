@@ -1,4 +1,4 @@
-//! Why a script is not played to its end.
+//! The reasons why a script is not played to its end.
 ghost use Rattle.std.specs.Prelude.{◌≡◌, Some};
 ghost use Rattle.starlark_script.specs.Fault.{status_of, text_of};
 
@@ -17,7 +17,7 @@ pub enum PlayFault {
 }
 
 impl PlayFault {
-    /// The exit status of the program: 2 for a bad line, 3 for want of memory, 4 for input and output.
+    /// The exit status of the program: 2 for a bad line, 3 for a refusal of memory, 4 for input and output.
     pub fn status(&self) -> u8
         ensures { result ≡ status_of self.now }
     {

@@ -1,10 +1,11 @@
-//! A reader and a writer that take turns: what was written goes out before the next read, which may wait.
+//! A reader and a writer that take turns: what was written is flushed before the next read, which may block.
 
 use std::cell::RefCell;
 use std::io;
 use std::io::{Read, Write};
 
-/// A reader that flushes a writer before each read. Where the flush fails the read is not made, and fails so.
+/// A reader that flushes a writer before each read. If the flush fails, nothing is read, and the read fails with the
+/// flush's error.
 #[derive(Drop)]
 pub struct PromptReader<'a, R, W> {
     reader: R,
@@ -18,14 +19,14 @@ pub struct SharedWriter<'a, W> {
 }
 
 impl<'a, R, W> PromptReader<'a, R, W> {
-    /// Reads from this reader, and flushes this writer before.
+    /// A reader over `reader` that flushes `writer` before each read.
     pub fn new(reader: R, writer: &'a RefCell<W>) -> PromptReader<'a, R, W> {
         PromptReader { reader, writer }
     }
 }
 
 impl<'a, W> SharedWriter<'a, W> {
-    /// Writes to this writer.
+    /// A writer to `writer`.
     pub fn new(writer: &'a RefCell<W>) -> SharedWriter<'a, W> {
         SharedWriter { writer }
     }
@@ -44,7 +45,7 @@ impl<W: Write> Write for SharedWriter<'_, W> {
     #[inline]
     fn write(&mut self, buf: &[u8]) -> io::Result<usize> {
         let mut writer = self.writer.try_borrow_mut()?;
-        // The count alone outlives the borrow: a whole `Result` would be taken apart by its bytes.
+        // Only the count outlives the borrow. A whole `Result` would be taken apart by its bytes.
         let count = writer.write(buf)?;
         Ok(count)
     }

@@ -1,4 +1,4 @@
-//! The lines of a script: found in what is read, read from their texts, played on a small map, and answered by replies.
+//! The lines of a script: cut out of the input, parsed, played on a small map, and answered by replies.
 #![tactic(auto)]
 
 pub mod answer;

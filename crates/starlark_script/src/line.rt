@@ -1,4 +1,4 @@
-//! Lines, read from their texts.
+//! Parsing a line from its text.
 ghost use Rattle.std.specs.Prelude.{◌≡◌, ◌≢◌, ℕ, ℤ, ◌<◌, ◌≤◌, ◌^◌, [], ◌∷◌, length, All, IsTrue, ◌↔◌, IfSome, IfNone, MatchOption, decimal, FitsSigned};
 ghost use Rattle.std.specs.Int.{w64};
 ghost use Rattle.std.specs.Fmt.{signed_decimal};
@@ -10,7 +10,7 @@ use starlark_hash::text_key::TextKey;
 use starlark_hash::{Hashed, StarlarkHashValue};
 use std::str;
 
-// The largest index, and the most room, that a line names.
+// The largest index, and the largest amount of room, in a line.
 const MOST: usize = 1_000_000;
 
 /// A line of a script: what it asks for.
@@ -26,15 +26,15 @@ pub enum Line<'a> {
     At(usize),
     /// Remove the last entry.
     Pop,
-    /// Turn the order of the entries round.
+    /// Reverse the order of the entries.
     Rev,
     /// Sort the entries by key.
     Sort,
     /// Remove each entry.
     Clear,
-    /// Make room for so many new entries.
+    /// Make room for this many new entries.
     Reserve(usize),
-    /// Drop the index where the map is short enough to do without.
+    /// Drop the hash index if the map is short enough to do without.
     Slim,
     /// Count the entries.
     Len,
@@ -42,7 +42,7 @@ pub enum Line<'a> {
     Walk,
 }
 
-// The fields of a text, as far as any line has them.
+// The fields of a text, up to the number of fields that a line may have.
 #[derive(Clone, Copy)]
 enum Fields<'a> {
     One(&'a str),
@@ -52,7 +52,7 @@ enum Fields<'a> {
     More,
 }
 
-/// The line whose text this is, without its end; `None` where it is a bad line.
+/// The line with this text, which excludes the line's end; `None` if the text is a bad line.
 pub fn read_line(text: &[u8]) -> Option<Line<'_>>
     requires { length text.now ≤ 1000 }
     ensures { MatchOption result (IsBad text.now) (λ line. IsTextOf text.now (shown line)) }
@@ -63,7 +63,7 @@ pub fn read_line(text: &[u8]) -> Option<Line<'_>>
     }
 }
 
-/// A text is that of one line at most, so a script has one list of lines and of replies.
+/// A text is the text of at most one line, so that a script has one list of lines and of replies.
 pub fn texts_are_of_one()
     ensures { TextsAreOfOne }
 {}
@@ -109,7 +109,7 @@ fn fields_in(text: &str) -> Fields<'_>
     }
 }
 
-// What stands before the first space and behind it.
+// The parts before and behind the first space.
 #[inline(always)]
 fn cut(text: &str) -> Option<(&str, &str)>
     ensures { MatchOption result (fields_of text.now ≡ text.now ∷ []) (λ parts. fields_of text.now ≡ parts.0.now ∷ fields_of parts.1.now) }
@@ -136,7 +136,7 @@ fn is_visible(key: &str) -> bool
     !key.is_empty() && key.as_bytes().iter().all(|b| 33 <= *b && *b <= 126)
 }
 
-// The number that is written so, up to a million.
+// The number in this spelling, if it is at most a million.
 fn count_in(text: &str) -> Option<usize>
     ensures some { IfSome result (λ n. (text.now ≡ decimal n) × (n ≤ 1000000)) }
     ensures none { IfNone result ((n : ℕ) → n ≤ 1000000 → text.now ≢ decimal n) }
@@ -145,7 +145,7 @@ fn count_in(text: &str) -> Option<usize>
     if n <= MOST { Some(n) } else { None }
 }
 
-// The number that is written so.
+// The number in this spelling.
 fn number_in(text: &str) -> Option<u32>
     ensures some { IfSome result (λ n. text.now ≡ decimal n) }
     ensures none { IfNone result ((n : ℕ) → n < 2 ^ 32 → text.now ≢ decimal n) }
@@ -156,7 +156,7 @@ fn number_in(text: &str) -> Option<u32>
     text.parse::<u32>().ok()
 }
 
-// The number that is written so.
+// The signed number in this spelling.
 fn value_in(text: &str) -> Option<i64>
     ensures some { IfSome result (λ z. text.now ≡ signed_decimal z) }
     ensures none { IfNone result ((z : ℤ) → FitsSigned w64 z → text.now ≢ signed_decimal z) }

@@ -1,4 +1,4 @@
-//! Lines that go to a writer.
+//! Writing lines to a writer.
 ghost use Rattle.std.specs.Prelude.{◌≡◌, ◌<◌, length, IfSome, OnOk, IfErr};
 ghost use Rattle.std.specs.Fmt.{with_newline};
 ghost use Rattle.std.specs.Io.KnownBytes.{Appends};
@@ -9,11 +9,10 @@ use std::fmt;
 use std::fmt::{Display, Formatter};
 use std::io::Write;
 
-// The most bytes of a line that goes out in one write.
+// The most bytes of a line that is written by one write.
 const SHORT: usize = 64;
 
-/// Writes a text and a line feed, in one write where they are short. A write that fails is not tried again, whatever its
-/// kind.
+/// Writes a text and a line feed, by one write if they are short. A write that fails is not tried again, whatever its kind.
 pub fn write_line<W: Write, D: Display + Drop>(writer: &mut W, text: D) -> Result<(), PlayFault>
     ensures ok { OnOk result (IfSome (with_newline (D.output text)) (Appends (W.contents writer.old) (W.contents writer.new))) }
     ensures err { IfErr result (λ fault. fault ≡ PlayFault.Io) }
@@ -25,7 +24,7 @@ pub fn write_line<W: Write, D: Display + Drop>(writer: &mut W, text: D) -> Resul
     }
 }
 
-// Writes a text and a line feed, each part of the text as it comes.
+// Writes a text and a line feed, with one write for each part of the text.
 fn write_in_parts<W: Write, D: Display + Drop>(writer: &mut W, text: D) -> Result<(), PlayFault>
     ensures ok { OnOk result (IfSome (with_newline (D.output text)) (Appends (W.contents writer.old) (W.contents writer.new))) }
     ensures err { IfErr result (λ fault. fault ≡ PlayFault.Io) }
@@ -33,7 +32,7 @@ fn write_in_parts<W: Write, D: Display + Drop>(writer: &mut W, text: D) -> Resul
     let mut line = Formatter::new(Output { writer });
     let written = line.writeln(text);
     let Output { writer } = line.into_inner();
-    // No effect at run time. The proof reads what the writer holds from this use.
+    // This has no effect at run time. The proof reads the writer's content from this use.
     let _ = &*writer;
     match written {
         Ok(()) => Ok(()),
@@ -41,7 +40,7 @@ fn write_in_parts<W: Write, D: Display + Drop>(writer: &mut W, text: D) -> Resul
     }
 }
 
-/// Writes a text as it is. A write that fails is not tried again, whatever its kind.
+/// Writes a text unchanged. A write that fails is not tried again, whatever its kind.
 pub fn write_text<W: Write>(writer: &mut W, text: &str) -> Result<(), PlayFault>
     ensures ok { OnOk result (Appends (W.contents writer.old) (W.contents writer.new) text.now) }
     ensures err { IfErr result (λ fault. fault ≡ PlayFault.Io) }
@@ -49,7 +48,7 @@ pub fn write_text<W: Write>(writer: &mut W, text: &str) -> Result<(), PlayFault>
     write_bytes(writer, text.as_bytes()).map_err(|_| PlayFault::Io)
 }
 
-// A writer of bytes as a writer of texts.
+// A writer of texts over a writer of bytes.
 #[derive(Drop)]
 struct Output<'a, W> {
     writer: &'a mut W,
@@ -65,7 +64,7 @@ impl<W: Write> fmt::Write for Output<'_, W> {
     }
 }
 
-// Writes all the bytes. Any failed write ends it, and so does one that takes none of them.
+// Writes all the bytes. It ends at any failed write, and at one that writes no bytes.
 #[inline]
 fn write_bytes<W: Write>(writer: &mut W, bytes: &[u8]) -> fmt::Result
     ensures { OnOk result (Appends (W.contents writer.old) (W.contents writer.new) bytes.now) }

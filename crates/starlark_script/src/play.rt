@@ -9,14 +9,14 @@ use starlark_small::SmallMap;
 use std::alloc::Global;
 use std::io::{Read, Write};
 
-/// Plays the script that the reader holds, on a map that begins empty: does what each line asks for, and writes its
-/// reply before the next line is taken. The writer is flushed at the end of the script, behind the last reply, and only
-/// there; then the reader is at its end. How reads cut the bytes makes no difference.
+/// Plays the script of the reader on a map that begins empty: does what each line asks for, and writes its reply before the
+/// next line is taken. The writer is flushed only at the end of the script, behind the last reply; then the reader is at
+/// its end. How reads cut the bytes makes no difference.
 ///
-/// A bad line, or a line for which memory is refused, ends it: the replies to the lines before are then written, and no
-/// others. `BadLine` has the number of the line, counted from 1. Memory is refused only to a new key, to a sort of keys
-/// that do not ascend, and to a reservation of more than 0; whether a line is bad is settled before memory is asked
-/// for. What was written before a read, a write or the flush failed is not said.
+/// A bad line, or a line for which memory is refused, ends it: exactly the replies to the lines before are then written.
+/// `BadLine` has the number of the line, counted from 1. Memory is refused only to a new key, to a sort of keys that do not
+/// ascend, and to a reservation of more than 0; whether a line is bad is decided before memory is asked for. Nothing is
+/// said of what was written before a read, a write or the flush failed.
 pub fn play<R: Read, W: Write>(
     alloc: Global,
     reader: &mut R,

@@ -1,4 +1,4 @@
-//! Lines of at most 1,000 bytes, cut out of what a reader gives.
+//! Lines of at most 1,000 bytes, cut out of a reader's bytes.
 ghost use Rattle.std.specs.Prelude.{◌≡◌, ℕ, ◌+◌, ◌-◌, ◌<◌, ◌≤◌, List, [], length, take, drop, slice_range, position, ◌==◌, IfSome, IfNone, OnOk, IfErr, IfOk};
 ghost use Rattle.std.specs.Io.KnownBytes.{Keeps, Consumes, IsAtEnd, prepend_known};
 ghost use Rattle.starlark_script.specs.Found.{HasNoBreak, IsHeld, Shows, ShowsBreak, ShowsRest};
@@ -11,7 +11,7 @@ use std::marker::Model;
 // The most bytes of a line, without its end.
 const LONGEST: usize = 1000;
 
-// The most bytes that are held, and so that one read gives.
+// The most bytes in the window, and thus the most that one read returns.
 const ROOM: usize = 16_384;
 
 /// The line that a window begins with.
@@ -19,13 +19,13 @@ const ROOM: usize = 16_384;
 pub enum Found {
     /// No line: the input has ended.
     End,
-    /// A line of so many bytes. A line feed or the end of the input follows.
+    /// A line of this many bytes. A line feed or the end of the input follows.
     Line(usize),
     /// A line of more bytes than a line may have.
     TooLong,
 }
 
-/// The bytes that are read and not yet taken.
+/// The bytes that were read and not yet taken.
 #[derive(Drop)]
 pub struct Window {
     buffer: [u8; ROOM],
@@ -45,7 +45,7 @@ impl Model for Window {
 }
 
 impl Window {
-    /// A window that holds nothing.
+    /// A window without bytes.
     pub fn new() -> Window
         ensures { result ≡ [] }
     {
@@ -56,7 +56,7 @@ impl Window {
         }
     }
 
-    /// The bytes held.
+    /// The bytes in the window.
     pub fn bytes(&self) -> &[u8]
         ensures { result.now ≡ self.now }
     {
@@ -65,7 +65,7 @@ impl Window {
         &all[start..end]
     }
 
-    /// Takes a line of so many bytes from the front, and what ends it.
+    /// Takes a line of `len` bytes from the front, and its end.
     pub fn skip_line(&mut self, len: usize)
         requires { len ≤ length self.old }
         ensures { self.new ≡ drop (len + 1) self.old }
@@ -74,8 +74,8 @@ impl Window {
         self.start += held.min(len + 1);
     }
 
-    /// Reads on, a block a call, until the first line is whole or too long, or the input has ended. A failed
-    /// read ends it, whatever its kind.
+    /// Reads on, one block each time, until the first line is whole or too long, or the input has ended. A failed read ends
+    /// it, whatever its kind.
     pub fn find_line<R: Read>(&mut self, reader: &mut R) -> Result<Found, PlayFault>
         ensures kept { OnOk result (Keeps (prepend_known self.old (R.remaining reader.old)) (prepend_known self.new (R.remaining reader.new))) }
         ensures shows { IfOk result (λ found. Shows found self.new (R.remaining reader.new)) }
@@ -96,7 +96,7 @@ impl Window {
         Err(PlayFault::Io)
     }
 
-    // One read, behind the bytes that are held.
+    // Reads once, behind the bytes in the window.
     fn refill<R: Read>(&mut self, reader: &mut R) -> io::Result<usize>
         requires { length self.old ≤ LONGEST }
         ensures kept { OnOk result (Keeps (prepend_known self.old (R.remaining reader.old)) (prepend_known self.new (R.remaining reader.new))) }
@@ -113,7 +113,7 @@ impl Window {
     }
 }
 
-// What the bytes show before the input has ended, if they are enough.
+// The line that the bytes begin with, if they are enough to say so before the input has ended.
 fn found_in(bytes: &[u8]) -> Option<Found>
     ensures some { IfSome result (λ found. ShowsBreak found bytes.now) }
     ensures none { IfNone result ((length bytes.now ≤ LONGEST) × HasNoBreak bytes.now) }
@@ -126,7 +126,7 @@ fn found_in(bytes: &[u8]) -> Option<Found>
     }
 }
 
-// What the bytes show where the input has ended.
+// The line that the bytes begin with, if the input has ended.
 fn last_of(bytes: &[u8]) -> Found
     requires short { length bytes.now ≤ LONGEST }
     requires whole { HasNoBreak bytes.now }
@@ -149,7 +149,7 @@ fn read_at<R: Read>(reader: &mut R, buffer: &mut [u8], at: usize) -> io::Result<
     reader.read(&mut buffer[at..])
 }
 
-// Where the first line feed stands.
+// The position of the first line feed.
 fn line_break(bytes: &[u8]) -> Option<usize>
     ensures { result ≡ position (λ b. b == 10) bytes.now }
 {

@@ -1,35 +1,35 @@
--- Bits that tell which of some slots pass a test, and the walk over those that are full.
+-- Bits that say which slots of a group pass a test, and the iteration over the full ones.
 use Rattle.starlark_hash.proofs.Common.{◌≡◌, ◌≢◌, ℕ, zero, suc, ◌+◌, ◌-◌, ◌*◌, ◌/◌, ◌%◌, ◌<◌, ◌≤◌, List, Bool, true, false, cond, length, map, Option, Some, None, arith, get_or, sym, refl, ◌∙◌, drop-cons, bit_and, nat_tests, common_steps, nat_lt}
 use Rattle.std.specs.Int.Bits.{and_step, and_self}
 use Rattle.std.specs.Int.Count.{count_trailing_zeros}
 use lib.Lanes.{chunk, mask_l}
 use Rattle.starlark_table.specs.Layout.{at, bits_where, hash_tag_bits, left_from, padding, IsTagged, IsTaggedFrom, LeftInWindow}
-use Rattle.starlark_table.proofs.Filling.{filled-by_some}
-use Rattle.starlark_table.proofs.Tagged.{tag-below}
+use Rattle.starlark_table.proofs.FilledSlots.{filled-by_some}
+use Rattle.starlark_table.proofs.SlotTags.{tag-below}
 
 pub lowest : (b : Bool) (n : ℕ) → ((cond b 1 0 + 2 * n) % 2 ≡ cond b 1 0) × ((cond b 1 0 + 2 * n) / 2 ≡ n)
 lowest b n = grind arith
 
--- the same slots pass
+-- two tests that agree on the slots give the same bits
 bits_where-alike : (t u : ℕ → Bool) (from n : ℕ) → ((p : ℕ) → from ≤ p → p < from + n → t p ≡ u p) → bits_where t from n ≡ bits_where u from n
 unfolding bits_where
 bits_where-alike t u from zero alike = refl
 bits_where-alike t u from (suc n) alike = grind (arith, alike from, bits_where-alike t u (suc from) n)
 
--- one that passes sets a bit
+-- a slot that passes sets a bit
 bits_where-some : (t : ℕ → Bool) (from n k : ℕ) → k < n → t (from + k) ≡ true → 0 < bits_where t from n
 unfolding bits_where
 bits_where-some t from zero k within here = absurd (omega arith)
 bits_where-some t from (suc n) zero within here = grind arith
 bits_where-some t from (suc n) (suc k) within here = grind (arith, bits_where-some t (suc from) n k)
 
--- the first slot that passes, so many slots on
+-- the first slot that passes is k slots on
 pub record FirstPassing (t : ℕ → Bool) (from n k : ℕ) : Type 0 where
   pub within : k < n
   pub there : t (from + k) ≡ true
   pub before : (p : ℕ) → from ≤ p → p < from + k → t p ≡ false
 
--- where a bit is set, the lowest is that of the first slot that passes
+-- if a bit is set, the lowest is that of the first slot that passes
 pub first_passing-by_bits : (t : ℕ → Bool) (from n w : ℕ) → n ≤ w → bits_where t from n ≢ 0
     → FirstPassing t from n (count_trailing_zeros w (bits_where t from n))
 unfolding bits_where count_trailing_zeros
@@ -38,11 +38,11 @@ first_passing-by_bits t from (suc n) zero few some = absurd (omega arith)
 first_passing-by_bits t from (suc n) (suc w) few some =
     grind (arith, lowest (t from) (bits_where t (suc from) n), first_passing-by_bits t (suc from) n w (omega arith))
 
--- where no bit is set, no slot passes
+-- if no bit is set, no slot passes
 pub none_passing-by_bits : (t : ℕ → Bool) (from n : ℕ) → bits_where t from n ≡ 0 → (p : ℕ) → from ≤ p → p < from + n → t p ≡ false
 none_passing-by_bits t from n none p low high = grind (arith, bits_where-some t from n (p - from))
 
--- without the lowest bit that is set
+-- the bits without the lowest one are those of the slots after the first that passes
 bits_where-cleared : (t u : ℕ → Bool) (from n k : ℕ) → FirstPassing t from n k → ((p : ℕ) → from ≤ p → p ≤ from + k → u p ≡ false)
     → ((p : ℕ) → from + k < p → p < from + n → t p ≡ u p) → bit_and (bits_where t from n) (bits_where t from n - 1) ≡ bits_where u from n
 unfolding bits_where
@@ -52,7 +52,7 @@ bits_where-cleared t u from (suc n) zero first past later =
 bits_where-cleared t u from (suc n) (suc k) first past later =
     grind (arith, first.before from, and_step, bits_where-some t (suc from) n k, past from, bits_where-cleared t u (suc from) n k)
 
--- the bits, as those of a vector
+-- the bits are those of a vector comparison
 pub bits_where-chunk : (passes : ℕ → Bool) (xs : List ℕ) (from n : ℕ) → from + n ≤ length xs
     → bits_where (λ p. passes (get_or xs p 0)) from n ≡ mask_l (map passes (chunk from n xs))
 unfolding bits_where
@@ -64,7 +64,7 @@ module _ {T : Type 0} where
   pub tagged_from-start : (tags : List ℕ) (slots : List (Option (ℕ × T))) → IsTagged tags slots → IsTaggedFrom 0 tags slots
   tagged_from-start tags slots t = grind arith
 
-  -- further on, where the slots behind stay
+  -- tags that are right from one slot on are right from a later one on, if the slots there have not changed
   pub tagged_from-later : (start end : ℕ) (tags : List ℕ) (slots new : List (Option (ℕ × T))) → IsTaggedFrom start tags slots → start ≤ end
       → length new ≡ length slots → ((p : ℕ) → end ≤ p → at new p ≡ at slots p) → IsTaggedFrom end tags new
   tagged_from-later start end tags slots new t on same stay = grind arith
@@ -77,7 +77,7 @@ module _ {T : Type 0} where
       (λ p low high. grind (arith, common_steps, nat_tests, tag-below)) in
       grind arith
 
-  -- the slot of the lowest bit, and the walk past it
+  -- the slot of the lowest bit, and the state of the iteration past it
   pub record NextFull (slots : List (Option (ℕ × T))) (start end next bits k : ℕ) : Type 0 where
     pub ahead : next ≤ start + k
     pub within : start + k < end
@@ -104,19 +104,19 @@ module _ {T : Type 0} where
         on = grind (arith, nat_tests, first.there, first.within);
       }
 
-  -- where no bit is left, no slot that is left is full
+  -- if no bit is left, no slot left in the group is full
   pub window_done : (slots : List (Option (ℕ × T))) (start end next bits : ℕ) → LeftInWindow slots start end next bits → bits ≡ 0
       → (p : ℕ) → next ≤ p → p < end → at slots p ≡ None
   unfolding left_from
   window_done slots start end next bits w none p low high =
       grind (arith, nat_tests, none_passing-by_bits (left_from slots next) start (end - start) (sym w.its ∙ none) p)
 
-  -- before the first slot no window is open
+  -- before the first slot no group is open
   pub window_before_all : (slots : List (Option (ℕ × T))) → LeftInWindow slots 0 0 0 0
   unfolding bits_where
   window_before_all slots = grind arith
 
-  -- slots that are alike behind the slots that are passed have the same bits
+  -- lists that are alike behind the passed slots have the same bits
   pub window_alike : (slots new : List (Option (ℕ × T))) (start end next bits : ℕ) → LeftInWindow slots start end next bits
       → ((p : ℕ) → next ≤ p → at new p ≡ at slots p) → LeftInWindow new start end next bits
   unfolding left_from

@@ -1,5 +1,6 @@
--- A `Result` of a key and a value that are lent: a clause of one name is made at `Ok` and at `Err`, and a `Result` that a call gave is opened. Assumes `Logic`.
-use Rattle.starlark_columns.proofs.Walking.{◌≡◌, refl, ap, ◌∙◌, ℕ, ◌⊎◌, inl, inr, List, [], ◌∷◌, ◌++◌, none, Ura, named, Val, of_list, vptr, vstruct, vcons, vnil, SProp, ent, ex, guard, Lft, GName, fres, Logic, sem, ‵, ◌$◌, ◌∵◌, !, qed, keep, fsplit, fpick, fpack, feq_l, rewrite, show, check, done, live, RattleType, follows, follows_so, such_by, follows_by, Is, shows, Bor, MutBor, MutRef, ShrRef, mut_Tells, shr_Tells, layout, peeks, only, Good, Tuple}
+-- A `Result` of a lent key and value: proofs make one clause for both `Ok` and `Err`, and open a `Result` that a call
+-- returned. Assumes `Logic`.
+use Rattle.starlark_columns.proofs.LogicNames.{◌≡◌, refl, ap, ◌∙◌, ℕ, ◌⊎◌, inl, inr, List, [], ◌∷◌, ◌++◌, none, Ura, named, Val, of_list, vptr, vstruct, vcons, vnil, SProp, ent, ex, guard, Lft, GName, fres, Logic, sem, ‵, ◌$◌, ◌∵◌, !, qed, keep, fsplit, fpick, fpack, feq_l, rewrite, show, check, done, live, RattleType, follows, follows_so, such_by, follows_by, Is, shows, Bor, MutBor, MutRef, ShrRef, mut_Tells, shr_Tells, layout, peeks, only, Good, Tuple}
 use mathlib.Core.Option.{some}
 use Rattle.core.specs.declared.result.Result.{Result}
 use Rattle.core.specs.declared.result.Result.TheVariants.{Ok, Err}
@@ -10,18 +11,18 @@ module _ {M : Type 1} {𝓤 : Ura M} (𝓛 : Logic 𝓤) where
   open 𝓛 use {H}
 
   module _ (R T : RattleType) (γ : GName) (P : T.Denot → R.Denot → Type 0) (P₀ : R.Denot → Type 0) (v : R.Denot) (ends : P₀ v) where
-    -- no part has left
+    -- no part is lent: the whole is as the value says
     pub so_rests : ((w : T.Denot) → P w v) → ent 𝓤 (sem 𝓛 (fres γ (R.coded.code v))) (sem 𝓛 (follows_so R T γ none P P₀))
     unfolding such_by follows_by
     so_rests p = qed 𝓛 (‵ (fres γ (R.coded.code v)) ∷ []) ∵ fpack ! ((s : (T.Denot → R.Denot) × R.Denot) × ((w : T.Denot) → P w (s.0 w)) × P₀ s.1) (λ s. follows_by R.Denot T.Denot R.coded.code T.coded.code γ none s.0.0 s.0.1) (((λ w. v), v), p, ends) $ done !
 
-    -- a part has left, and the whole follows it
+    -- a part is lent, and the whole follows it
     pub so_follows : (γ' : GName) (F : T.Denot → R.Denot) → ((w : T.Denot) → P w (F w)) → ent 𝓤 (sem 𝓛 (follows R T γ γ' F)) (sem 𝓛 (follows_so R T γ (some γ') P P₀))
     unfolding such_by follows_by
     so_follows γ' F p = qed 𝓛 (‵ (follows R T γ γ' F) ∷ []) ∵ fpack ! ((s : (T.Denot → R.Denot) × R.Denot) × ((w : T.Denot) → P w (s.0 w)) × P₀ s.1) (λ s. follows_by R.Denot T.Denot R.coded.code T.coded.code γ (some γ') s.0.0 s.0.1) ((F, v), p, ends) $ done !
 
   module _ (R E : RattleType) (v : Val) where
-    -- where the type tells its machine value
+    -- `Ok` of a value whose type determines its machine value
     pub in_ok_told : (x : R.Denot) (u : Val) → ((vs : List Val) → Is R x vs → (vs ≡ u ∷ []) × Good (layout R) u)
         → ent 𝓤 (sem 𝓛 ((RS.the_row R E).own_val (Ok x) (v ∷ []))) (guard 𝓤 ((v ≡ live 0 (vcons u vnil)) × Good (layout R) u) (sem 𝓛 (R.own_val x (u ∷ []))))
     in_ok_told x u told =
@@ -41,7 +42,7 @@ module _ {M : Type 1} {𝓤 : Ura M} (𝓛 : Logic 𝓤) where
         check ! (ap only e ∙ ap (λ ws. live 1 (of_list ws)) (f ∙ ap (λ ws. ws ++ []) got.1), got.2) $ keep ! (0 ∷ []) $ done !)))))
 
   module _ (K V : RattleType) (κ : Lft) (x : Bor K.Denot × MutBor V.Denot) (v : Val) where
-    -- `(&K, &mut V)`
+    -- the type `(&K, &mut V)`
     abbrev pub Entry : RattleType
     Entry = Tuple (ShrRef (named 0) κ K ∷ MutRef (named 0) κ V ∷ [])
 
@@ -55,7 +56,7 @@ module _ {M : Type 1} {𝓤 : Ura M} (𝓛 : Logic 𝓤) where
         let e : v ≡ entry_val = ap only is.1.0 ∙ (λ k. vstruct (of_list (f k ++ (g k ++ [])))) in
         rewrite ! 0 (λ (u : Val). ‵ (Entry.own_val x (u ∷ []))) e refl $ check ! e $ done !)
 
--- a `Result` is one of the two
+-- a `Result` is `Ok` or `Err`
 pub which : {A E : Type 0} (r : Result A E) → ((x : A) × (r ≡ Ok x)) ⊎ ((e : E) × (r ≡ Err e))
 which (Ok x) = inl (x, refl)
 which (Err e) = inr (e, refl)

@@ -2,34 +2,34 @@ pub mod Lists
 pub mod Circle
 pub mod Bag
 pub mod Holders
-pub mod Searching
-pub mod Closing
+pub mod EmptySearch
+pub mod BackwardShift
 pub mod TagCount
-pub mod Tagged
-pub mod Filling
-mod Marked
+pub mod SlotTags
+pub mod FilledSlots
+mod LentSlots
 pub mod TagBits
 pub mod FullBits
-pub mod Emptying
-pub mod Cloning
-pub mod Windows
-pub mod Looking
+pub mod EmptiedSlots
+pub mod ClonedSlots
+pub mod ProbeSequence
+pub mod SearchState
 pub mod Load
-pub mod Changing
+pub mod TableChanges
 pub mod Sound
 pub mod Shape
-pub mod Walking
-pub mod ReplacingWindows
-pub mod MovingWindows
-pub mod Retaining
-pub mod Settling
+pub mod ClosureCalls
+pub mod GroupReplacement
+pub mod GroupDrain
+pub mod RetainPass
+pub mod BackwardShiftPass
 pub mod PairBags
 pub mod TableLemmas
-mod BesideClose
+mod TwoPartLoan
 pub mod LentInResult
 mod WrittenSlots
-pub mod WalkRenamed
-mod TableOpens
-pub mod Passing
-pub mod Near
-pub mod Vacant
+pub mod LoanNames
+mod TableFields
+pub mod UncrossedSlot
+pub mod OverflowFilter
+pub mod Vacancy

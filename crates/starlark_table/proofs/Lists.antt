@@ -1,4 +1,4 @@
--- Lists that a loop goes along, one slot after another.
+-- Lists that a loop passes through one slot after another.
 use Rattle.starlark_hash.proofs.Common.{◌≡◌, ℕ, ◌+◌, ◌<◌, ◌∷◌, List, drop, arith, length, get_or, set, common_steps}
 
 module _ {X : Type 0} where

@@ -1,4 +1,4 @@
--- How many members the slots hold.
+-- How many members the slots have, and that an empty slot is left.
 use Rattle.starlark_hash.proofs.Common.{◌≡◌, ◌≢◌, ℕ, zero, suc, add-one, length-append, ◌+◌, ◌*◌, ◌^◌, ◌<◌, ◌≤◌, List, [], ◌∷◌, ◌++◌, length, Option, Some, None, arith, refl, IsPermutation, ◌∙◌, ap, common_steps, length_permutation, IsPermutation-trans, IsPermutation-sym, IsPermutation-middle, IsPermutation-append_right, set}
 use Rattle.std.proofs.Common.{replicate}
 use Rattle.std.proofs.lemmas.List.Sorted.{IsPermutation-append_left}
@@ -10,7 +10,7 @@ use Rattle.starlark_table.proofs.Bag.{filled-set_none, filled-set_some}
 use Rattle.starlark_table.proofs.TagCount.{tag_count-some}
 
 module _ {T : Type 0} where
-  -- fewer members than slots leave an empty slot
+  -- if there are fewer members than slots, a slot is empty
   pub empty_slot : (slots : List (Option (ℕ × T))) → length (filled slots) < length slots
       → (q : ℕ) × (q < length slots) × (at slots q ≡ None)
   empty_slot [] less = absurd (omega arith)
@@ -40,7 +40,7 @@ module _ {T : Type 0} where
   filled-replicate zero = refl
   filled-replicate (suc n) = filled-replicate n
 
-  -- a member that leaves one slot for another, of the new slots
+  -- moving a member from its old slot to a new one keeps the bag of both lists
   pub bag-member_moved : (all : List (ℕ × T)) (old slots : List (Option (ℕ × T))) (from slot : ℕ) (m : ℕ × T)
       → at old from ≡ Some m → slot < length slots → at slots slot ≡ None
       → IsPermutation all (filled old ++ filled slots)

@@ -1,4 +1,4 @@
--- Whether slots are well laid out depends on their hashes alone.
+-- The layout of slots depends on their hashes alone.
 use Rattle.starlark_hash.proofs.Common.{◌≡◌, ℕ, suc, List, [], ◌∷◌, length, Option, Some, None, IsSome, get_or, refl, sym, ◌∙◌, ap, arith, map, AllZip, set, length-map, Bor, Mut}
 use Rattle.std.proofs.Math.ListN.{get_or-map}
 use Rattle.std.proofs.Math.Seq.{map-set_same}
@@ -62,14 +62,14 @@ module _ {T : Type 0} (is_clone : T → T → Type 0) where
   shape-cloned (o ∷ old) [] all = absurd all
   shape-cloned (o ∷ old) (p ∷ new) all = grind (arith, shape-cloned old new all.1)
 
-  -- clones under their own tags lie as well as what they were made of
+  -- clones with their own tags are laid out like the slots they were made of
   pub sound-cloned : (old new : List (Option (ℕ × T))) (tags tags' : List ℕ) (count far : ℕ) → IsSound old tags count far
       → AllZip (IsSlotClone is_clone) old new → IsTagged tags' new → IsSound new tags' count far
   sound-cloned old new tags tags' count far sound all tagged =
       grind (arith, reshaped old new (shape-cloned old new all) tags count far sound)
 
 module _ {T : Type 0} (w : T) where
-  -- another item in a slot
+  -- writing another item into a full slot keeps the invariant
   pub sound-written : (slots : List (Option (ℕ × T))) (i : ℕ) (m : ℕ × T) (tags : List ℕ) (count far : ℕ) → at slots i ≡ Some m
       → IsSound slots tags count far → IsSound (set slots i (Some (m.0, w))) tags count far
   sound-written slots i m tags count far e =

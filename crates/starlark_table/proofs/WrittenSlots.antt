@@ -1,10 +1,10 @@
--- Slots whose members were written stay as they were but for these: empty, or full under their hashes.
+-- Slots that a mutable iterator has written: a slot is still empty, or full under its hash.
 use Rattle.starlark_hash.proofs.Common.{◌≡◌, ℕ, suc, List, [], ◌∷◌, length, Option, refl, ap, arith}
 use Rattle.starlark_columns.specs.Loan.{kept_cells}
 use Rattle.starlark_table.proofs.Shape.{shape}
 
 module _ {T : Type 0} where
-  -- the hashes stay
+  -- lemmas for writes that keep the hashes
   module _ (kept : ℕ × T → ℕ × T → ℕ × T) (hash : (x w : ℕ × T) → (kept x w).0 ≡ x.0) where
     pub shape-kept_cells : (xs ws : List (Option (ℕ × T))) → shape (kept_cells kept xs ws) ≡ shape xs
     shape-kept_cells [] ws = refl
@@ -17,7 +17,7 @@ module _ {X : Type 0} (kept : X → X → X) where
   length-kept_cells (x ∷ xs) [] = ap suc (length-kept_cells xs [])
   length-kept_cells (x ∷ xs) (w ∷ ws) = ap suc (length-kept_cells xs ws)
 
-  -- what a walk wrote, written again
+  -- lemmas for slots that are written twice
   module _ (itself : (x : X) → kept x x ≡ x) (again : (x w : X) → kept x (kept x w) ≡ kept x w) where
     pub again-kept_cells : (xs ws : List (Option X)) → kept_cells kept xs (kept_cells kept xs ws) ≡ kept_cells kept xs ws
     again-kept_cells [] ws = refl

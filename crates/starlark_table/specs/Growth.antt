@@ -1,7 +1,7 @@
--- How full a `ReadyTable` gets before it grows, and how far it grows.
+-- The maximum load factor of a `ReadyTable`, and how far it grows.
 use Rattle.std.specs.Prelude.{ℕ, ◌+◌, ◌*◌, ◌/◌, max}
 
--- how many members may stand in m slots
+-- the maximum load: how many members may be in m slots
 abbrev pub limit : ℕ → ℕ
 limit m = m / 8 * 6 + m / 16
 

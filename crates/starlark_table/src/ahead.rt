@@ -1,4 +1,4 @@
-//! Where a walk over all slots stands: the full slots of a window of tags that it has still to reach.
+//! The position of an iterator over the slots: the full slots of one group that it has still to reach.
 ghost use Rattle.std.specs.Prelude.{◌≡◌, ◌≢◌, ℕ, ◌+◌, ◌<◌, ◌≤◌, ◌∷◌, None, IfSome, drop, length};
 ghost use Rattle.starlark_columns.specs.Cells.{IsFilled};
 ghost use Rattle.starlark_table.specs.Layout.{at, IsTagged, LeftInWindow};
@@ -8,7 +8,7 @@ use crate::kept_hash::KeptHash;
 use crate::probe::Slots;
 use crate::tags::full_slots;
 
-// A window of slots, of which those before `next` are passed: each other one that is full has its bit.
+// A group of slots of which those before `next` have been passed. Each full slot left has its bit set.
 #[derive(Clone, Copy)]
 pub(crate) struct Ahead {
     pub(crate) start: usize,
@@ -18,7 +18,7 @@ pub(crate) struct Ahead {
 }
 
 impl Ahead {
-    // Before the first slot.
+    // The position before the first slot.
     #[inline]
     pub(crate) fn of_all() -> Self
         ensures { result ≡ record { start = 0; end = 0; next = 0; full = 0 } }
@@ -31,7 +31,7 @@ impl Ahead {
         }
     }
 
-    // Goes on to the next full slot. There is one.
+    // Advances past the next full slot and returns it. There is one.
     #[inline]
     pub(crate) fn step<T, H: KeptHash>(&mut self, slots: &Slots<T, H>, tags: &[u8]) -> usize
         requires tagged { IsTagged tags.now slots.now }
@@ -51,7 +51,7 @@ impl Ahead {
         slot
     }
 
-    // Opens the next window with a full slot, where this one has none left. There is one.
+    // Advances to the next group with a full slot, if this one has none left. A full slot is left.
     #[inline]
     #[tactic(auto, using(crate::proofs::FullBits::window_done))]
     fn open<T, H: KeptHash>(&mut self, slots: &Slots<T, H>, tags: &[u8])
@@ -69,7 +69,7 @@ impl Ahead {
     }
 }
 
-// The first window from a slot on that has a full slot. There is one.
+// The first group from a slot on that has a full slot. There is one.
 fn first_full<T, H: KeptHash>(slots: &Slots<T, H>, tags: &[u8], from: usize) -> Ahead
     requires tagged { IsTagged tags.now slots.now }
     requires some { 0 < length (filled (drop from slots.now)) }

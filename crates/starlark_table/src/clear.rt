@@ -1,4 +1,4 @@
-//! What empties all slots, and finds the next full one.
+//! Emptying all slots, and finding the next full one.
 ghost use Rattle.std.specs.Prelude.{◌≡◌, ℕ, ◌<◌, ◌≤◌, None, length, IfNone, IfSome, IsSome};
 ghost use Rattle.starlark_table.specs.Layout.{at, AreDoubled, IsTagged};
 
@@ -7,7 +7,7 @@ use crate::probe::Slots;
 use crate::tags::{EMPTY, full_slots, tags_beside};
 use starlark_columns::Bytes;
 
-// Drops every member. The tags stay.
+// Drops every member. The tags are left as they are, for the caller to overwrite.
 pub(crate) fn empty_all<T: Drop, H: KeptHash>(slots: &mut Slots<T, H>, tags: &[u8])
     requires { IsTagged tags.now slots.old }
     ensures sized { length slots.new ≡ length slots.old }
@@ -20,8 +20,8 @@ pub(crate) fn empty_all<T: Drop, H: KeptHash>(slots: &mut Slots<T, H>, tags: &[u
     }
 }
 
-// Drops every member, and gives the memory back.
-#[tactic(auto, using(crate::proofs::Filling::all_empty))]
+// Drops every member and frees the memory.
+#[tactic(auto, using(crate::proofs::FilledSlots::all_empty))]
 pub(crate) fn drop_all<T: Drop, H: KeptHash>(mut slots: Slots<T, H>, tags: Bytes)
     requires tagged { IsTagged tags slots }
     requires doubled { AreDoubled slots }
@@ -32,7 +32,7 @@ pub(crate) fn drop_all<T: Drop, H: KeptHash>(mut slots: Slots<T, H>, tags: Bytes
     tags.give_back(count);
 }
 
-// The first slot from one on that has a member, if there is one.
+// The first full slot from `from` on, or `None`.
 #[inline]
 pub(crate) fn next_full<T, H: KeptHash>(
     slots: &Slots<T, H>,

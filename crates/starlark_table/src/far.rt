@@ -1,8 +1,9 @@
-//! Which members may stand outside the first windows of their searches: of 64 bits, one for each tag modulo 64.
+//! The overflow filter: one bit for each tag modulo 64. A bit says that a member with such a tag may be outside its home's
+//! group.
 ghost use Rattle.std.specs.Prelude.{◌≡◌, ℕ, false};
 ghost use Rattle.starlark_table.specs.Layout.{MayBeFar};
 
-// Whether a member with this tag may stand outside the first window of its search.
+// Whether a member with this tag may be outside its home's group.
 #[inline]
 pub(crate) fn may_be_far(far: u64, tag: u8) -> bool
     ensures no { result ≡ false → MayBeFar far tag → ⊥ }
@@ -10,7 +11,7 @@ pub(crate) fn may_be_far(far: u64, tag: u8) -> bool
     far >> (tag % 64) & 1 == 1
 }
 
-// These bits, and that of this tag beside them: a member with it may stand there from now on.
+// The filter with the bit of this tag set.
 #[inline]
 pub(crate) fn with_far(far: u64, tag: u8) -> u64
     ensures its { MayBeFar result tag }

@@ -1,5 +1,5 @@
-//! Growth: how many slots so many members want; new slots, all empty; and the move of every member into them under the hash
-//! that it keeps.
+//! Growth: the number of slots for a capacity, new empty slots, and the move of every member into them with its stored
+//! hash.
 ghost use Rattle.std.specs.Prelude.{◌≡◌, ℕ, ◌+◌, ◌^◌, ◌*◌, ◌<◌, ◌≤◌, ◌++◌, None, length, IfOk, OnOk, IsPermutation, IfSome, IfNone};
 ghost use Rattle.std.specs.List.{AllZip};
 ghost use Rattle.starlark_columns.specs.Cells.{empties};
@@ -13,7 +13,7 @@ use crate::tags::{EMPTY, PADDING, WINDOW, full_slots, tags_beside};
 use starlark_columns::{Bytes, Column};
 use std::alloc::{AllocError, Global};
 
-// How many members so many slots may hold.
+// The maximum load of `count` slots: how many members they may have.
 #[inline]
 pub(crate) fn limit(count: usize) -> usize
     ensures { result ≡ limit count }
@@ -21,8 +21,8 @@ pub(crate) fn limit(count: usize) -> usize
     count / 8 * 6 + count / 16
 }
 
-// The least number of slots that may hold so many members, and at least eight: a power of two, so that each bit of its
-// mask is set.
+// The least number of slots for `needed` members. It is at least eight and a power of two, so that a slot is found by a
+// mask.
 pub(crate) fn slots_for(needed: usize) -> Option<usize>
     ensures some { IfSome result (λ count. 0 < count) }
     ensures fits { IfSome result (λ count. count ≤ 2 ^ 62) }
@@ -42,7 +42,7 @@ pub(crate) fn slots_for(needed: usize) -> Option<usize>
     Some(count)
 }
 
-// So many empty slots, and their tags.
+// New empty slots, and their tags.
 pub(crate) fn empty_slots<T, H: KeptHash>(
     alloc: Global,
     count: usize,
@@ -61,7 +61,7 @@ pub(crate) fn empty_slots<T, H: KeptHash>(
     }
 }
 
-// The tags of so many empty slots, and the window behind them.
+// The tags of `count` empty slots, followed by the padding of one group.
 fn empty_tags(alloc: Global, count: usize) -> Result<Bytes, AllocError>
     requires { count + window < 2 ^ 64 }
     ensures { IfOk result (λ tags. tags ≡ tags_of_empty count) }
@@ -71,7 +71,7 @@ fn empty_tags(alloc: Global, count: usize) -> Result<Bytes, AllocError>
     Ok(tags)
 }
 
-// Moves each member to the new slots, which have room for all, and gives the old ones back.
+// Moves each member to the new slots, which have room for all, and frees the old ones.
 pub(crate) fn move_all<T, H: KeptHash>(
     mut old: Slots<T, H>,
     old_tags: Bytes,
@@ -101,7 +101,7 @@ pub(crate) fn move_all<T, H: KeptHash>(
     old_tags.give_back(count);
 }
 
-// Moves the members of a window of slots. The answer is where it ends.
+// Moves the members of a group of slots, and returns the end of the group.
 fn move_window<T, H: KeptHash>(
     from: &mut Slots<T, H>,
     from_tags: &[u8],
@@ -138,8 +138,8 @@ fn move_window<T, H: KeptHash>(
     end
 }
 
-// Puts a clone of each member into the same slot, which is empty. Where one is refused, those that were
-// made stand there.
+// Clones each member into the same slot of `copy`, which is empty. If a clone is refused, those already made are in
+// `copy`.
 pub(crate) fn clone_members<T: Clone, H: KeptHash>(
     slots: &Slots<T, H>,
     tags: &[u8],

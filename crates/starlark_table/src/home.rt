@@ -1,4 +1,4 @@
-//! Slots round a circle: where a hash belongs, which slot is next, and how far one is behind another.
+//! The slots as a circle: the home of a hash, the slot after one, and the distance between two.
 ghost use Rattle.std.specs.Prelude.{◌≡◌, ℕ, ◌+◌, ◌^◌, ◌<◌, ◌≤◌, ◌==◌, if◌then◌else◌, true, false};
 ghost use Rattle.starlark_table.specs.Layout.{distance, home, window, IsFar, IsMask};
 
@@ -14,7 +14,7 @@ pub(crate) fn next_slot(slot: usize, count: usize) -> usize
     if slot + 1 == count { 0 } else { slot + 1 }
 }
 
-// Where the window after the one from `start` on begins: at the first slot again where it would begin behind the last.
+// The start of the next group, or the first slot if that start would lie behind the last slot.
 #[inline]
 pub(crate) fn window_after(start: usize, mask: usize) -> usize
     requires { start ≤ mask }
@@ -28,7 +28,8 @@ pub(crate) fn window_after(start: usize, mask: usize) -> usize
     }
 }
 
-// The slot a window behind another one, round a circle of a power of two of slots. No proof rests on which it is.
+// The slot sixteen slots on, round a circle whose size is a power of two. It is only a guess, so no proof needs to know
+// which slot it is.
 #[inline]
 pub(crate) fn window_behind(slot: usize, count: usize) -> usize
     requires { 0 < count }
@@ -37,7 +38,7 @@ pub(crate) fn window_behind(slot: usize, count: usize) -> usize
     slot.wrapping_add(WINDOW) & (count - 1)
 }
 
-// The mask of these slots. Without slots none is asked for, and no test is made here.
+// The mask of these slots. If there are no slots the answer is never used, so that no test is made.
 #[inline]
 pub(crate) fn mask_of<T, H: KeptHash>(slots: &Slots<T, H>) -> usize
     ensures { IsMask result slots.now }
@@ -45,7 +46,7 @@ pub(crate) fn mask_of<T, H: KeptHash>(slots: &Slots<T, H>) -> usize
     slots.cells().wrapping_sub(1)
 }
 
-// The home of a number. A search asks for the number once, for it and for the tag.
+// The home of a hash, by its number. A search computes the number once, for the home and for the tag.
 #[inline]
 #[tactic(auto, unfolding(crate::specs::Layout::home))]
 pub(crate) fn home(number: u64, mask: usize) -> usize
@@ -62,7 +63,7 @@ pub(crate) fn home_among<H: KeptHash>(count: usize, hash: &Kept<H>) -> usize
     home(hash.number(), count - 1)
 }
 
-// Whether a slot stands outside the first window from another one on.
+// Whether a slot is outside the group that starts at `from`.
 #[inline]
 pub(crate) fn is_far(from: usize, slot: usize) -> bool
     ensures yes { result ≡ true → IsFar from slot }

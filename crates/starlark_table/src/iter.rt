@@ -1,4 +1,4 @@
-//! The iterators of a `ReadyTable`. Each goes along the walk, and is seen as the list of the items that are left.
+//! The iterators of a `ReadyTable`. Each is seen as the list of the items that are left.
 ghost use Rattle.std.specs.Prelude.{◌≡◌, length, ⊤, IfSome, Some};
 ghost use Rattle.std.specs.Iterator.{YieldsFirst, YieldsFirstBy, YieldsFirstRef, UpTo, at_most, item_count};
 ghost use Rattle.std.specs.Iterator.SizeHint.{IsWithinCount};
@@ -14,12 +14,12 @@ use std::alloc::AllocError;
 use std::iter::FusedIterator;
 use std::marker::Model;
 
-/// The items of a table, each by `&`.
+/// The iterator over the items of a table, each by `&`.
 #[derive(Drop)]
 pub struct Iter<'a, T, H: KeptHash = u64> {
     slots: &'a Slots<T, H>,
     tags: &'a [u8],
-    // Where the walk stands, and how many items it has still to give.
+    // The position of the iterator, and how many items are left.
     ahead: Ahead,
     left: usize,
 }
@@ -108,7 +108,8 @@ impl<'a, T, H: KeptHash> Clone for Iter<'a, T, H> {
     }
 }
 
-/// The members of a table, each as its hash and its item, by value. What is left when it is dropped is dropped with it.
+/// The iterator over the members of a table, each as its hash and its item, by value. The members left when it is dropped
+/// are dropped with it.
 pub struct IntoIter<T, H: KeptHash = u64> {
     slots: Slots<T, H>,
     tags: Bytes,
@@ -125,7 +126,7 @@ impl<T, H: KeptHash> Model for IntoIter<T, H> {
 
     ghost view = { λ it. filled it.slots };
 
-    // What was given has left its slot, and its tag: so the slots in front of the walk are empty.
+    // A returned member has left its slot but not its tag, so the slots before the position are empty.
     ghost invariant = { λ it. IsTagged it.tags it.slots × (it.left ≡ length (filled it.slots)) × ((p : ℕ) → p < it.ahead.next → at it.slots p ≡ None) × AreDoubled it.slots × LeftInWindow it.slots it.ahead.start it.ahead.end it.ahead.next it.ahead.full };
 }
 
@@ -149,7 +150,7 @@ impl<T, H: KeptHash> IntoIter<T, H> {
         }
     }
 
-    /// The member that `next` would give, under its hash as the table kept it, so that another table can take it in.
+    /// The next member, with its hash in the form that the table keeps, for another table to store.
     #[inline]
     pub fn next_kept(&mut self) -> Option<(H, T)>
         ensures { YieldsFirstBy (λ m. (H.number m.0, m.1)) (λ rest. rest) self.old result self.new }

@@ -1,4 +1,4 @@
-//! The iterator that lends the items of a `ReadyTable` for writing, while their hashes are frozen.
+//! The mutable iterator over the items of a `ReadyTable`. Their hashes cannot change.
 ghost use Rattle.std.specs.Prelude.{◌≡◌, length, IfSome, Some};
 ghost use Rattle.std.specs.Iterator.{UpTo, at_most};
 ghost use Rattle.std.specs.Iterator.SizeHint.{IsWithinCount};
@@ -11,7 +11,7 @@ use crate::loan::Loan;
 use std::iter::FusedIterator;
 use std::marker::Model;
 
-/// The items of a table, each by `&mut`. It is seen as the items that are left, and the name of its loan.
+/// The mutable iterator over the items of a table. It is seen as the items that are left, and the name of its loan.
 #[derive(Drop)]
 pub struct IterMut<'a, T, H: KeptHash = u64> {
     loan: Loan<'a, T, H>,

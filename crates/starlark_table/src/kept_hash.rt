@@ -1,25 +1,25 @@
-//! What a slot keeps of a hash: the 64 bits, or fewer that stand for them.
+//! The stored form of a hash: all 64 bits, or fewer that determine them.
 ghost use Rattle.std.specs.Prelude.{◌≡◌, ℕ, ◌==◌};
 ghost use Rattle.starlark_hash.specs.HashValue.{hash_number, promoted};
 
 use starlark_hash::StarlarkHashValue;
 use std::marker::Model;
 
-/// A hash in the form that a table keeps it in. It stands for a number of 64 bits, by which the table finds its slot.
+/// The form in which a table stores a hash. It determines a number of 64 bits, by which the table finds the slot.
 pub trait KeptHash: Copy {
-    // the number
+    // the number that the stored form determines
     ghost number: { Self → ℕ };
 
-    /// The number.
+    /// The number that the stored form determines.
     fn number(self) -> u64
         ensures { result ≡ number self };
 
-    /// Whether both stand for one number.
+    /// Whether both determine one number.
     fn is_same(self, other: Self) -> bool
         ensures { result ≡ (number self == number other) };
 }
 
-/// A number stands for itself.
+/// A number is its own stored form.
 impl KeptHash for u64 {
     ghost number = { λ h. h };
 
@@ -34,7 +34,7 @@ impl KeptHash for u64 {
     }
 }
 
-/// A hash value, of 32 bits, stands for its promoted hash.
+/// A hash value, of 32 bits, determines its promoted hash.
 impl KeptHash for StarlarkHashValue {
     ghost number = { λ h. promoted (hash_number h) };
 
@@ -49,7 +49,7 @@ impl KeptHash for StarlarkHashValue {
     }
 }
 
-/// The hash of a slot, seen as the number that it stands for.
+/// The stored hash of a slot, seen as the number that it determines.
 #[derive(Drop)]
 pub struct Kept<H: KeptHash>(H);
 

@@ -1,4 +1,4 @@
-//! A hash table that is given ready 64-bit hashes, and asks no hasher of its items.
+//! A hash table whose callers supply 64-bit hashes. It never hashes its items.
 #![tactic(auto)]
 
 mod ahead;

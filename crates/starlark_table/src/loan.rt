@@ -1,4 +1,4 @@
-//! The right to write the items of slots that lie side by side, and that a walk has still to reach.
+//! The right to write the items of adjoining slots that a mutable iterator has still to reach.
 ghost use Rattle.std.specs.Prelude.{◌≡◌, ℕ, ◌+◌, ◌<◌, ◌∷◌, length, Option};
 ghost use Rattle.std.specs.Map.Iter.{deref_pair_mut};
 ghost use Rattle.std.specs.Option.{option_copied_mut, option_map};
@@ -9,12 +9,12 @@ use crate::tags::EMPTY;
 use starlark_columns::loan::{AllButLast, First};
 use std::marker::Model;
 
-// The right to the slots that are still to be taken, `rest`, which begin with the `from`-th. Their hashes are frozen.
-// `tie` is the loan of all, which the table follows.
+// The right to write the slots still to be taken, `rest`, which begin with the `from`-th. Their hashes are frozen. `tie`
+// names the loan of all slots, which the table follows.
 #[derive(Drop)]
 pub(crate) struct Loan<'a, T, H: KeptHash> {
     slots: starlark_columns::Loan<'a, (Kept<H>, T), First>,
-    // They alone tell at run time which slots are full.
+    // Only the tags say at run time which slots are full.
     tags: &'a [u8],
 }
 
@@ -44,9 +44,9 @@ impl<'a, T, H: KeptHash> Loan<'a, T, H> {
         Loan { slots, tags }
     }
 
-    // Takes the next slot, and answers its item if it has one.
+    // Takes the next slot, and returns its item if it has one.
     #[inline]
-    #[tactic(auto, using(crate::proofs::Marked::marking))]
+    #[tactic(auto, using(crate::proofs::LentSlots::marking))]
     pub(crate) fn take(&mut self, index: usize) -> Option<&'a mut T>
         requires { (index ≡ self.old.from) × (0 < length self.old.rest) }
         ensures { (slot : Option (ℕ × T)) × (self.old.rest ≡ slot ∷ self.new.rest) × (option_copied_mut result ≡ option_map (λ m. m.1) slot) × (self.new.from ≡ self.old.from + 1) × (self.new.tie ≡ self.old.tie) }
@@ -60,7 +60,7 @@ impl<'a, T, H: KeptHash> Loan<'a, T, H> {
     }
 }
 
-// Lent slots with pairs, of which hashes and keys are frozen.
+// The right to write the values of pairs in slots. Hashes and keys are frozen.
 #[derive(Drop)]
 pub(crate) struct PairLoan<'a, K, V, H: KeptHash> {
     slots: starlark_columns::Loan<'a, (Kept<H>, (K, V)), AllButLast>,
@@ -94,9 +94,9 @@ impl<'a, K, V, H: KeptHash> PairLoan<'a, K, V, H> {
         PairLoan { slots, tags }
     }
 
-    // Takes the next slot, and answers its pair if it has one.
+    // Takes the next slot, and returns its pair if it has one.
     #[inline]
-    #[tactic(auto, using(crate::proofs::Marked::marking))]
+    #[tactic(auto, using(crate::proofs::LentSlots::marking))]
     pub(crate) fn take(&mut self, index: usize) -> Option<(&'a K, &'a mut V)>
         requires { (index ≡ self.old.from) × (0 < length self.old.rest) }
         ensures { (slot : Option (ℕ × (K × V))) × (self.old.rest ≡ slot ∷ self.new.rest) × (option_map deref_pair_mut result ≡ option_map (λ m. m.1) slot) × (self.new.from ≡ self.old.from + 1) × (self.new.tie ≡ self.old.tie) }

@@ -1,4 +1,4 @@
-//! The iterator that lends the values of a `ReadyTable` of pairs for writing, while hashes and keys are frozen.
+//! The mutable iterator over the values of a `ReadyTable` of pairs. Hashes and keys cannot change.
 ghost use Rattle.std.specs.Prelude.{◌≡◌, length, IfSome, Some};
 ghost use Rattle.std.specs.Iterator.{UpTo, at_most};
 ghost use Rattle.std.specs.Iterator.SizeHint.{IsWithinCount};
@@ -10,7 +10,8 @@ use crate::loan::PairLoan;
 use std::iter::FusedIterator;
 use std::marker::Model;
 
-/// The pairs of a table, each as `(&K, &mut V)`. It is seen as the pairs that are left, and the name of its loan.
+/// The mutable iterator over the pairs of a table, each as `(&K, &mut V)`. It is seen as the pairs that are left, and the
+/// name of its loan.
 #[derive(Drop)]
 pub struct PairsMut<'a, K, V, H: KeptHash = u64> {
     loan: PairLoan<'a, K, V, H>,

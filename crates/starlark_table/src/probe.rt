@@ -1,4 +1,5 @@
-//! Reads and writes of the slots along the way of a hash: from its home on, up to the first empty slot.
+//! Reads and writes along the probe sequence of a hash, which begins at its home and ends at the first group with an empty
+//! slot.
 ghost use Rattle.std.specs.Prelude.{◌≡◌, ◌≢◌, ◌⊎◌, ℕ, true, ◌+◌, ◌<◌, ◌≤◌, [], ◌∷◌, Some, None, drop, length, IfSome, IsSome, is_some, slice_set};
 ghost use Rattle.std.specs.Option.{option_copied, option_map};
 ghost use Rattle.starlark_hash.specs.Search.{Searches, CanSearch};
@@ -11,12 +12,12 @@ use crate::kept_hash::{Kept, KeptHash};
 use crate::tags::{EMPTY, slots_up_to_empty, slots_with, tag};
 use starlark_columns::Column;
 
-/// A slot for a member each: its hash, and its item.
+/// Slots, each with room for one member: its stored hash and its item.
 pub(crate) type Slots<T, H> = Column<(Kept<H>, T)>;
 
-// A slot, with the item in it.
+// The slot of an item that `eq` accepts, with the item.
 #[inline(always)]
-#[tactic(auto, using(crate::proofs::Windows::at_home))]
+#[tactic(auto, using(crate::proofs::ProbeSequence::at_home))]
 pub(crate) fn find_slot<'a, T, H: KeptHash, F: FnMut(&T) -> bool>(
     slots: &'a Slots<T, H>,
     tags: &[u8],
@@ -39,7 +40,7 @@ pub(crate) fn find_slot<'a, T, H: KeptHash, F: FnMut(&T) -> bool>(
     let mut start = home(number, mask);
     let mut slot = start;
     let mut same = slots_with(tags, start, sought);
-    // The first slot with the tag is mostly the one that is sought: before the loop, no jump leads there.
+    // The first slot with the tag is most often the right one. Testing it before the loop saves a jump.
     if same != 0 {
         slot += same.trailing_zeros() as usize;
         let (stored, item) = slots.get(slot);
@@ -71,8 +72,8 @@ pub(crate) fn find_slot<'a, T, H: KeptHash, F: FnMut(&T) -> bool>(
     }
 }
 
-// Whether no member with a tag can stand behind the window of its home: a slot there is empty, or no such member stands far.
-// Both are looked at before the jump, which is then foreseen mostly.
+// Whether no member with this tag can be outside its home's group: that group has an empty slot, or the overflow filter
+// has no bit for the tag. Both are computed before the branch, which is then predicted well.
 #[inline]
 fn ends_at_home(tags: &[u8], home: usize, far: u64, tag: u8) -> bool
     requires { home + window ≤ length tags.now }
@@ -81,9 +82,9 @@ fn ends_at_home(tags: &[u8], home: usize, far: u64, tag: u8) -> bool
     (slots_with(tags, home, EMPTY) != 0) | !may_be_far(far, tag)
 }
 
-// The first empty slot of the home's window, where no tag there is that of the hash: then no member has the hash.
+// The first empty slot of the home's group, if no tag of the group is that of the hash. No member has the hash then.
 #[inline(always)]
-#[tactic(auto, using(crate::proofs::Windows::at_home))]
+#[tactic(auto, using(crate::proofs::ProbeSequence::at_home))]
 pub(crate) fn vacancy<T, H: KeptHash>(
     slots: &Slots<T, H>,
     tags: &[u8],
@@ -110,9 +111,9 @@ pub(crate) fn vacancy<T, H: KeptHash>(
     Some(start + empty.trailing_zeros() as usize)
 }
 
-// The first empty slot from one on.
+// The first empty slot from `home` on.
 #[inline]
-#[tactic(auto, using(crate::proofs::Settling::homes))]
+#[tactic(auto, using(crate::proofs::BackwardShiftPass::homes))]
 pub(crate) fn free_slot<T, H: KeptHash>(slots: &Slots<T, H>, tags: &[u8], home: usize) -> usize
     requires home { home < length slots.now }
     requires tagged { IsTagged tags.now slots.now }
@@ -131,8 +132,8 @@ pub(crate) fn free_slot<T, H: KeptHash>(slots: &Slots<T, H>, tags: &[u8], home: 
     start + empty.trailing_zeros() as usize
 }
 
-// The first empty slot from a home on, for a member with this tag. The bit of the tag is set where the slot is not in the
-// first window.
+// The first empty slot from a home on, for a member with this tag. If the slot is outside the home's group, the bit of the
+// tag is set in the overflow filter.
 #[inline]
 fn slot_from<T, H: KeptHash>(
     slots: &Slots<T, H>,
@@ -158,9 +159,9 @@ fn slot_from<T, H: KeptHash>(
     home + empty.trailing_zeros() as usize
 }
 
-// Puts a member at the first empty slot from its home on, and its tag beside it.
+// Stores a member in the first empty slot from its home on, and writes its tag.
 #[inline]
-#[tactic(auto, using(crate::proofs::Settling::homes))]
+#[tactic(auto, using(crate::proofs::BackwardShiftPass::homes))]
 pub(crate) fn put<T, H: KeptHash>(
     slots: &mut Slots<T, H>,
     tags: &mut [u8],
@@ -187,7 +188,7 @@ pub(crate) fn put<T, H: KeptHash>(
     slot
 }
 
-// Puts a member into a slot that `vacancy` answered for its hash, and its tag beside it.
+// Stores a member in a slot that `vacancy` returned for its hash, and writes its tag.
 #[inline(always)]
 pub(crate) fn put_at<T, H: KeptHash>(
     slots: &mut Slots<T, H>,
@@ -208,9 +209,9 @@ pub(crate) fn put_at<T, H: KeptHash>(
     slots.write(slot, (hash, item));
 }
 
-// Whether a member stands in a slot.
+// Whether a slot is full, by its tag.
 #[inline]
-#[tactic(auto, using(crate::proofs::Filling::tells))]
+#[tactic(auto, using(crate::proofs::FilledSlots::tells))]
 pub(crate) fn is_full<T, H: KeptHash>(slots: &Slots<T, H>, tags: &[u8], slot: usize) -> bool
     requires { IsTagged tags.now slots.now }
     ensures { result ≡ is_some (at slots.now slot) }

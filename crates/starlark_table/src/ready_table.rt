@@ -1,4 +1,4 @@
-//! A bag of items under ready hashes. It alone sees how the slots are laid out.
+//! A bag of items with hashes that callers supply. No other crate sees how the slots are laid out.
 ghost use Rattle.std.specs.Prelude.{◌≡◌, ℕ, ◌+◌, ◌*◌, ◌^◌, ◌<◌, ◌≤◌, Some, None, [], ◌∷◌, ◌++◌, List, length, slice_set, IsOk, IfOk, OnOk, OnErr, IfErr, IfSome, IfNone, IsSome, is_some, IsPermutation, Option};
 ghost use Rattle.std.specs.Option.{option_and_then, option_copied, option_copied_mut, option_map};
 ghost use Rattle.std.specs.Borrow.{sem};
@@ -29,22 +29,22 @@ use std::alloc::{AllocError, Global};
 use std::marker::Model;
 use std::mem;
 
-/// A bag of items, each under a 64-bit hash that was ready when it came in, and that it keeps. Items need not differ,
-/// nor their hashes. It is seen as its slots and its room. Length plus room falls in no call.
+/// A bag of items, each stored under a 64-bit hash that the caller supplied. Items may be equal, and so may hashes. It is
+/// seen as its slots and its room. Length plus room falls in no call.
 ///
-/// Open addressing: each slot is empty or has a member. A member stands among the first sixteen slots from its home on, or all
-/// slots on the way from its home to it are full.
-/// Beside each slot stands a tag, one byte of the hash: by the tags a search mostly sees at once where its hash may be.
+/// The table uses open addressing: each slot is empty or has a member. Each member is in the group of sixteen slots at its
+/// home, or every slot from its home up to it is full. Each slot has a tag, one byte of the hash, so that a search mostly
+/// sees at once where its hash may be.
 ///
-/// In its slots a table keeps of each hash what `H` keeps: all 64 bits, or a `StarlarkHashValue`, which stands for its
-/// promoted hash.
+/// The slots store each hash in the form of `H`: all 64 bits, or a `StarlarkHashValue`, which determines its promoted hash.
 pub struct ReadyTable<T, H: KeptHash = u64> {
     slots: Slots<T, H>,
-    // Of each slot one byte, which alone tells at run time whether it has a member. How many there are the slots tell.
+    // One byte for each slot. Only the tag says at run time whether the slot has a member. The number of tags is computed
+    // from that of the slots.
     tags: Bytes,
     // How many members there are.
     len: usize,
-    // Which tags members have that may stand outside the first windows of their searches.
+    // The overflow filter: which tags belong to members that may be outside their homes' groups.
     far: u64,
 }
 
@@ -73,8 +73,8 @@ impl<T> ReadyTable<T> {
         ReadyTable::without_slots(alloc)
     }
 
-    /// An empty table with room for so many insertions at least, and for twice as many, or 6, at most. Where memory is
-    /// refused, nothing is made; capacity 0 is not refused.
+    /// An empty table with room for at least `capacity` insertions, and for at most twice as many, or 6. If memory is
+    /// refused, nothing is made. Capacity 0 is never refused.
     pub fn with_capacity(alloc: Global, capacity: usize) -> Result<ReadyTable<T>, AllocError>
         ensures empty { IfOk result (λ t. members t ≡ []) }
         ensures room { IfOk result (λ t. capacity ≤ t.room) }
@@ -88,7 +88,8 @@ impl<T> ReadyTable<T> {
 impl<T, H: KeptHash> ReadyTable<T, H> {
     ghost use Rattle.starlark_table.specs.Lend.{lends_item, lends_get};
 
-    /// An empty table without room, which keeps hashes in the form of `H`. It asks for no memory before the first insertion.
+    /// An empty table without room, which stores hashes in the form of `H`. It asks for no memory before the first
+    /// insertion.
     pub fn without_slots(alloc: Global) -> ReadyTable<T, H>
         ensures empty { members result ≡ [] }
         ensures slots { result.slots ≡ [] }
@@ -102,9 +103,9 @@ impl<T, H: KeptHash> ReadyTable<T, H> {
         }
     }
 
-    /// An empty table that keeps hashes in the form of `H`, with room for so many insertions at least, and for twice as
-    /// many, or 6, at most: it has the fewest slots that give the room. Where memory is refused, nothing is made; capacity
-    /// 0 is not refused.
+    /// An empty table that stores hashes in the form of `H`, with room for at least `capacity` insertions, and for at most
+    /// twice as many, or 6. It has the fewest slots that give this room. If memory is refused, nothing is made. Capacity 0
+    /// is never refused.
     pub fn keeping(alloc: Global, capacity: usize) -> Result<ReadyTable<T, H>, AllocError>
         ensures empty { IfOk result (λ t. members t ≡ []) }
         ensures room { IfOk result (λ t. capacity ≤ t.room) }
@@ -129,7 +130,7 @@ impl<T, H: KeptHash> ReadyTable<T, H> {
         })
     }
 
-    /// How many members there are.
+    /// The number of members.
     #[inline]
     pub fn len(&self) -> usize
         ensures { result ≡ table_len self.now }
@@ -137,7 +138,7 @@ impl<T, H: KeptHash> ReadyTable<T, H> {
         self.len
     }
 
-    /// How many slots there are, with members and without.
+    /// The number of slots, full and empty.
     #[inline]
     pub fn slots(&self) -> usize
         ensures { result ≡ length self.now.slots }
@@ -145,7 +146,7 @@ impl<T, H: KeptHash> ReadyTable<T, H> {
         self.slots.cells()
     }
 
-    /// How many insertions surely need no memory.
+    /// How many insertions certainly need no memory.
     #[inline]
     pub fn room(&self) -> usize
         ensures { result ≡ self.now.room }
@@ -153,10 +154,10 @@ impl<T, H: KeptHash> ReadyTable<T, H> {
         limit(self.slots.cells()) - self.len()
     }
 
-    /// The slot of an item under exactly this hash that `eq` accepts. `eq` is asked about items of this hash alone,
-    /// about each at most once and in no promised order, until it accepts one; `None` says that it refused them all. A
-    /// slot is good until the next change. Required is no more than that `eq` may be called on those items, in the
-    /// states that its refusals leave.
+    /// The slot of an item under exactly this hash that `eq` accepts. `eq` is called only on items of this hash, at most
+    /// once on each and in no promised order, until it accepts one; `None` says that it refused them all. A slot is valid
+    /// until the next change. The call requires only that `eq` may be called on those items, in the states that its
+    /// refusals leave.
     #[inline]
     pub fn find<F: FnMut(&T) -> bool>(&self, hash: H, eq: F) -> Option<usize>
         requires { CanSearch F.FnMut (items_under (H.number hash) self.now) eq }
@@ -176,7 +177,7 @@ impl<T, H: KeptHash> ReadyTable<T, H> {
         Some(slot)
     }
 
-    /// The item of such a slot, for which `eq` is asked just as by `find`.
+    /// The item under exactly this hash that `eq` accepts. `eq` is called just as by `find`.
     #[inline(always)]
     pub fn find_item<F: FnMut(&T) -> bool>(&self, hash: H, eq: F) -> Option<&T>
         requires { CanSearch F.FnMut (items_under (H.number hash) self.now) eq }
@@ -188,7 +189,7 @@ impl<T, H: KeptHash> ReadyTable<T, H> {
         self.find_item_unchecked(hash, eq)
     }
 
-    /// Finds the item as `find_item` does, in a table that has slots. It is not asked whether it has.
+    /// Finds the item in the way of `find_item`, in a table that has slots. This is required, not tested.
     #[inline(always)]
     pub fn find_item_unchecked<F: FnMut(&T) -> bool>(&self, hash: H, eq: F) -> Option<&T>
         requires some { 0 < length self.now.slots }
@@ -206,8 +207,9 @@ impl<T, H: KeptHash> ReadyTable<T, H> {
         Some(item)
     }
 
-    /// An empty slot for a new item under this hash, where one look at the slots shows it, and that no item is under the
-    /// hash; mostly it does where none is. The slot is good until the next change.
+    /// An empty slot for a new item under this hash, if the group at the hash's home shows one and shows that no item is
+    /// under the hash; otherwise `None`. It mostly finds one if no item is under the hash. The slot is valid until the next
+    /// change.
     #[inline(always)]
     pub fn vacancy(&self, hash: H) -> Option<usize>
         ensures none { IfSome result (λ _. items_under (H.number hash) self.now ≡ []) }
@@ -219,7 +221,7 @@ impl<T, H: KeptHash> ReadyTable<T, H> {
         self.vacancy_unchecked(hash)
     }
 
-    /// Looks for a vacancy as `vacancy` does, in a table that has slots. It is not asked whether it has.
+    /// Finds a vacancy in the way of `vacancy`, in a table that has slots. This is required, not tested.
     #[inline(always)]
     pub fn vacancy_unchecked(&self, hash: H) -> Option<usize>
         requires { 0 < length self.now.slots }
@@ -234,7 +236,7 @@ impl<T, H: KeptHash> ReadyTable<T, H> {
         )
     }
 
-    /// The first slot from one on that has a member, if there is one.
+    /// The first full slot from `from` on, or `None`.
     #[inline]
     pub fn next_full(&self, from: usize) -> Option<usize>
         ensures full { IfSome result (λ slot. from ≤ slot × IsSome (member_at self.now slot)) }
@@ -248,7 +250,7 @@ impl<T, H: KeptHash> ReadyTable<T, H> {
         )
     }
 
-    /// The item in a slot, where it has one.
+    /// The item at a slot, or `None` if the slot is empty.
     #[inline]
     pub fn get(&self, slot: usize) -> Option<&T>
         ensures { option_copied result ≡ option_map (λ m. m.1) (member_at self.now slot) }
@@ -260,7 +262,7 @@ impl<T, H: KeptHash> ReadyTable<T, H> {
         }
     }
 
-    /// The item of a slot that has one. The tag of the slot is not read.
+    /// The item at a full slot. The tag of the slot is not read.
     #[inline]
     pub fn get_unchecked(&self, slot: usize) -> &T
         requires { IsSome (member_at self.now slot) }
@@ -269,8 +271,8 @@ impl<T, H: KeptHash> ReadyTable<T, H> {
         &self.slots.get(slot).1
     }
 
-    /// The item in a slot, where it has one, for writing. The slot ends with what is left in it, under the same hash,
-    /// and all else stays.
+    /// The item at a slot for writing, or `None` if the slot is empty. The slot ends with what is left in it, under its
+    /// hash, and all else is unchanged.
     #[inline]
     pub fn get_mut(&mut self, slot: usize) -> Option<&mut T>
         ensures* writes_back { sem 𝓛 (lends_get T.row H.row ⟦<H as KeptHash>⟧ self.entry slot result) }
@@ -283,7 +285,7 @@ impl<T, H: KeptHash> ReadyTable<T, H> {
         }
     }
 
-    /// The item of a slot that has one, for writing. The tag of the slot is not read.
+    /// The item at a full slot, for writing. The tag of the slot is not read.
     #[inline]
     pub fn get_unchecked_mut(&mut self, slot: usize) -> &mut T
         requires { IsSome (member_at self.old slot) }
@@ -293,7 +295,7 @@ impl<T, H: KeptHash> ReadyTable<T, H> {
         &mut self.slots.get_mut(slot).1
     }
 
-    // Whether a slot has a member, by its tag.
+    // Whether a slot is full, by its tag.
     #[inline]
     fn is_full(&self, slot: usize) -> bool
         ensures { result ≡ is_some (member_at self.now slot) }
@@ -305,9 +307,9 @@ impl<T, H: KeptHash> ReadyTable<T, H> {
         )
     }
 
-    /// Puts an item in, also where an equal one is there, and answers its slot. The table grows only at room 0, and
-    /// then at most to room for twice its length, or for 6. Refused only at room 0; the table is then as it was, and the
-    /// item comes back.
+    /// Inserts an item, even if an equal one is there, and returns its slot. The table grows only at room 0, and then at
+    /// most to room for twice its length, or for 6. Refused only at room 0; the table is then unchanged, and the item comes
+    /// back.
     #[inline]
     pub fn insert_unique(&mut self, hash: H, item: T) -> Result<usize, NoRoom<T>>
         ensures named { IfOk result (λ slot. member_at self.new slot ≡ Some (H.number hash, item)) }
@@ -324,7 +326,7 @@ impl<T, H: KeptHash> ReadyTable<T, H> {
         Ok(self.insert_reserved(hash, item))
     }
 
-    /// Puts an item in where the room for it is there, as after `reserve`, and answers its slot. It is never refused.
+    /// Inserts an item into a table with room, such as `reserve` leaves, and returns its slot. It is never refused.
     #[inline]
     pub fn insert_reserved(&mut self, hash: H, item: T) -> usize
         requires { 0 < self.old.room }
@@ -347,7 +349,7 @@ impl<T, H: KeptHash> ReadyTable<T, H> {
         slot
     }
 
-    /// Puts an item into a slot that `vacancy` answered for this hash, with no change since: no slot is looked for.
+    /// Inserts an item into a slot that `vacancy` returned for this hash, with no change since. No slot is searched for.
     #[inline(always)]
     pub fn insert_at(&mut self, hash: H, item: T, slot: usize)
         requires room { 0 < self.old.room }
@@ -370,9 +372,9 @@ impl<T, H: KeptHash> ReadyTable<T, H> {
         self.len += 1;
     }
 
-    /// Makes room for so many insertions at least. It asks for no memory, and changes nothing, where the room is there;
-    /// else the table grows at most to room for twice the members that it is to hold, or for 6. Where it is refused, the
-    /// table is as it was.
+    /// Makes room for at least `additional` insertions. If the room is there, it asks for no memory and changes nothing;
+    /// otherwise the table grows at most to room for twice the members that it is to have, or for 6. If memory is refused,
+    /// the table is unchanged.
     #[inline]
     pub fn reserve(&mut self, additional: usize) -> Result<(), AllocError>
         ensures ok { OnOk result (additional ≤ self.new.room) }
@@ -408,8 +410,8 @@ impl<T, H: KeptHash> ReadyTable<T, H> {
         Ok(())
     }
 
-    /// Takes in the members of another table, with their hashes. There is room for all of them, and for one also where it
-    /// has none.
+    /// Takes in the members of another table, with their hashes. The call requires room for all of them, and for one even
+    /// if the other table has none.
     pub fn take_members(&mut self, other: ReadyTable<T, H>)
         requires room { table_len other ≤ self.old.room }
         requires some { 0 < self.old.room }
@@ -434,8 +436,8 @@ impl<T, H: KeptHash> ReadyTable<T, H> {
         self.len += len;
     }
 
-    /// Takes the member of a slot out, with its hash. All others stay, though not in their slots, so a search still
-    /// finds each. The room comes back at once. Where the slot has no member, nothing changes.
+    /// Removes the member of a slot, and returns it with its hash. Other members may move to other slots, and a search
+    /// still finds each. The room comes back at once. If the slot is empty, nothing changes.
     #[inline]
     pub fn remove(&mut self, slot: usize) -> Option<(u64, T)>
         ensures found { result ≡ member_at self.old slot }
@@ -450,7 +452,7 @@ impl<T, H: KeptHash> ReadyTable<T, H> {
         }
     }
 
-    /// Takes out the member of a slot that has one, with its hash. The tag of the slot is not asked whether it has.
+    /// Removes the member of a full slot, and returns it with its hash. That the slot is full is required, not tested.
     #[inline]
     pub fn remove_unchecked(&mut self, slot: usize) -> (u64, T)
         requires { IsSome (member_at self.old slot) }
@@ -461,7 +463,7 @@ impl<T, H: KeptHash> ReadyTable<T, H> {
         self.remove_followed(slot, &mut ())
     }
 
-    /// Takes out the member of a slot that has one, with its hash, and tells `follower` of each member that moves.
+    /// Removes the member of a full slot, and returns it with its hash. It notifies `follower` of each member that moves.
     #[inline]
     pub fn remove_followed<F: Follows<T>>(&mut self, slot: usize, follower: &mut F) -> (u64, T)
         requires full { IsSome (member_at self.old slot) }
@@ -480,8 +482,8 @@ impl<T, H: KeptHash> ReadyTable<T, H> {
         (member.0.number(), member.1)
     }
 
-    /// Puts what `f` answers in the place of each item, under the same hash: `f` is called once on each member, along
-    /// the walk, its state carried on. The room stays.
+    /// Replaces each item by what `f` returns for it, under its hash. `f` is called once on each member, in the order of
+    /// iteration. The room is unchanged.
     pub fn replace_each<F: FnMut(&T) -> T>(&mut self, f: F)
     where
         T: Drop,
@@ -493,9 +495,8 @@ impl<T, H: KeptHash> ReadyTable<T, H> {
         replace_items(&mut self.slots, self.tags.as_slice(count), f);
     }
 
-    /// Keeps the members that `f` accepts, with what `f` left in their items, and takes the others out. `f` is called
-    /// once on each member, along the walk, its state carried on. No memory is asked for, and the room of what was
-    /// taken out comes back.
+    /// Keeps the members that `f` accepts, with what `f` left in their items, and removes the others. `f` is called once on
+    /// each member, in the order of iteration. No memory is asked for, and the room of the removed members comes back.
     pub fn retain<F: FnMut(&mut T) -> bool>(&mut self, f: F)
     where
         T: Drop,
@@ -509,7 +510,7 @@ impl<T, H: KeptHash> ReadyTable<T, H> {
         self.far = u64::MAX;
     }
 
-    /// Removes every member. The room that they had comes back.
+    /// Removes every member. Their room comes back.
     pub fn clear(&mut self)
     where
         T: Drop,
@@ -527,7 +528,7 @@ impl<T, H: KeptHash> ReadyTable<T, H> {
         self.far = 0;
     }
 
-    /// The items along the walk, in no promised order, with exact length and size hint.
+    /// The items in the order of iteration, which is not promised, with exact length and size hint.
     #[inline]
     pub fn iter(&self) -> Iter<'_, T, H>
         ensures { result ≡ items_of self.now }
@@ -536,7 +537,7 @@ impl<T, H: KeptHash> ReadyTable<T, H> {
         Iter::new(&self.slots, tags, self.len())
     }
 
-    /// The members along the walk, each as its hash and its item, by value, with exact length and size hint.
+    /// The members in the order of iteration, each as its hash and its item, by value, with exact length and size hint.
     #[inline]
     pub fn into_iter(self) -> IntoIter<T, H>
         ensures { result ≡ members self }
@@ -569,7 +570,7 @@ impl<T: Clone, H: KeptHash> Clone for ReadyTable<T, H> {
 
     ghost is_infallible = { λ t. NeedsNoMemory t };
 
-    /// A table of clones, slot by slot. One without members and room asks for no memory, and is not refused.
+    /// Clones the table slot by slot. A table without members and room asks for no memory, and its clone is not refused.
     #[tactic(auto, using(crate::proofs::TagCount::tags_fit))]
     fn clone(&self) -> Result<Self, AllocError> {
         let alloc = self.tags.allocator();

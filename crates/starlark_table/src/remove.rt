@@ -1,4 +1,4 @@
-//! Removal from the slots: the members behind an emptied slot move back, so that none is lost to its search.
+//! Removal from the slots, with backward shift: members behind a vacated slot move back, so that a search still finds each.
 ghost use Rattle.std.specs.Prelude.{◌≡◌, ◌≢◌, ℕ, ◌+◌, ◌<◌, ◌≤◌, ◌⊎◌, None, true, false, ◌∷◌, Some, length, IfSome, IfNone, IsPermutation, slice_index_or, slice_set};
 ghost use Rattle.std.specs.List.{swap};
 ghost use Rattle.starlark_columns.specs.Cells.{IsFilled};
@@ -12,9 +12,9 @@ use crate::kept_hash::{Kept, KeptHash};
 use crate::probe::Slots;
 use crate::tags::{EMPTY, is_passed};
 
-// Whether the member of a slot stands behind the first window of its search, and has the hole on its way.
+// Whether the member of a slot has overflowed, and its path from the home leads over the vacated slot.
 #[inline]
-#[tactic(auto, using(crate::proofs::Settling::homes))]
+#[tactic(auto, using(crate::proofs::BackwardShiftPass::homes))]
 fn crosses<T, H: KeptHash>(slots: &Slots<T, H>, hole: usize, slot: usize) -> bool
     requires hole { hole < length slots.now }
     requires full { IsFilled slots.now slot }
@@ -26,8 +26,8 @@ fn crosses<T, H: KeptHash>(slots: &Slots<T, H>, hole: usize, slot: usize) -> boo
     is_far(home, slot) && distance(count, home, hole) < distance(count, home, slot)
 }
 
-// A member that crosses the hole: the one a window behind it, else the first one behind it. Of many that share a home so
-// one in sixteen moves, and those of a window stay side by side.
+// A member that crosses the vacated slot: the one sixteen slots on if it does, otherwise the first one. So of many
+// members that share a home only one in sixteen moves, and the members of a group stay together.
 #[inline]
 fn next_across<T, H: KeptHash>(slots: &Slots<T, H>, tags: &[u8], hole: usize) -> Option<usize>
     requires hole { hole < length slots.now }
@@ -53,7 +53,7 @@ fn next_across<T, H: KeptHash>(slots: &Slots<T, H>, tags: &[u8], hole: usize) ->
     None
 }
 
-// Moves a member into an empty slot, with its tag. What follows is told of it.
+// Moves a member and its tag into an empty slot, and notifies the observer.
 #[inline]
 fn move_into<T, H: KeptHash, F: Follows<T>>(
     slots: &mut Slots<T, H>,
@@ -78,8 +78,8 @@ fn move_into<T, H: KeptHash, F: Follows<T>>(
     tags.swap(hole, slot);
 }
 
-// Moves members back, so that no way from a home to its member crosses the empty slot `start`. Few removals want it, so it
-// is a call.
+// Moves members back, so that no member's path from its home leads over the empty slot `start`. Few removals need this, so
+// it is not inlined.
 #[inline(never)]
 pub(crate) fn close_gap<T, H: KeptHash, F: Follows<T>>(
     slots: &mut Slots<T, H>,
@@ -108,8 +108,8 @@ pub(crate) fn close_gap<T, H: KeptHash, F: Follows<T>>(
     }
 }
 
-// Whether a member that leaves this slot may leave another one behind a gap: some may stand behind the first windows of
-// their searches, and one of them may have the slot on its way.
+// Whether removing this slot's member may leave a gap in another member's path: the overflow filter is not empty, and a
+// path may lead over the slot.
 #[inline]
 fn leaves_gap(tags: &[u8], slot: usize, far: u64) -> bool
     requires room { slot + 1 + window ≤ length tags.now }
@@ -119,7 +119,7 @@ fn leaves_gap(tags: &[u8], slot: usize, far: u64) -> bool
     far != 0 && is_passed(tags, slot)
 }
 
-// Takes out the member of a slot that has one, and puts the others back in place.
+// Removes the member of a full slot, and moves others back where needed.
 #[inline]
 pub(crate) fn take_out<T, H: KeptHash, F: Follows<T>>(
     slots: &mut Slots<T, H>,

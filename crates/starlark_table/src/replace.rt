@@ -1,4 +1,4 @@
-//! The walk that puts a new item in the place of each.
+//! The loop that replaces each item.
 ghost use Rattle.std.specs.Prelude.{◌≡◌, ◌<◌, length, drop};
 ghost use Rattle.starlark_table.specs.Table.{items_in};
 ghost use Rattle.starlark_table.specs.Walk.{CanReplace, ReplacesEach, ReplacesWithin};
@@ -8,7 +8,7 @@ use crate::kept_hash::KeptHash;
 use crate::probe::Slots;
 use crate::tags::full_slots;
 
-// Puts what `f` answers in the place of each item.
+// Replaces each item by what `f` returns for it.
 pub(crate) fn replace_items<T: Drop, H: KeptHash, F: FnMut(&T) -> T>(
     slots: &mut Slots<T, H>,
     tags: &[u8],
@@ -24,7 +24,7 @@ pub(crate) fn replace_items<T: Drop, H: KeptHash, F: FnMut(&T) -> T>(
     }
 }
 
-// Replaces the items of a window of slots. The answer is where it ends.
+// Replaces the items of a group of slots, and returns the end of the group.
 fn replace_window<T: Drop, H: KeptHash, F: FnMut(&T) -> T>(
     slots: &mut Slots<T, H>,
     tags: &[u8],

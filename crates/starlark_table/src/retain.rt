@@ -1,4 +1,4 @@
-//! The walk that asks about each member whether it is to be kept, and moves those behind a hole back.
+//! `retain`: asks for each member whether it is kept, and then moves members back into the vacated slots.
 ghost use Rattle.std.specs.Prelude.{◌≡◌, ℕ, ◌<◌, ◌≤◌, ◌⊎◌, None, List, length, IsSome, IsPermutation};
 ghost use Rattle.std.specs.List.Retain.{RetainsInTurn};
 ghost use Rattle.starlark_table.specs.Table.{filled, items_in};
@@ -11,8 +11,8 @@ use crate::kept_hash::{Kept, KeptHash};
 use crate::probe::{Slots, free_slot};
 use crate::tags::EMPTY;
 
-// Takes out the members that `f` does not keep, and puts the others back in place. The answer is how many are left.
-#[tactic(auto, using(std::proofs::lemmas::List::Sorted::length_permutation, crate::proofs::Settling::reaches_before))]
+// Removes the members that `f` does not keep, and moves the others back where needed. Returns how many are left.
+#[tactic(auto, using(std::proofs::lemmas::List::Sorted::length_permutation, crate::proofs::BackwardShiftPass::reaches_before))]
 pub(crate) fn retain_items<T: Drop, H: KeptHash, F: FnMut(&mut T) -> bool>(
     slots: &mut Slots<T, H>,
     tags: &mut [u8],
@@ -37,7 +37,7 @@ pub(crate) fn retain_items<T: Drop, H: KeptHash, F: FnMut(&mut T) -> bool>(
     kept
 }
 
-// Empties the slots of the members that `f` does not keep. The answer is how many are left.
+// Empties the slots of the members that `f` does not keep. Returns how many are left.
 fn keep_items<T: Drop, H: KeptHash, F: FnMut(&mut T) -> bool>(
     slots: &mut Slots<T, H>,
     tags: &mut [u8],
@@ -64,7 +64,7 @@ fn keep_items<T: Drop, H: KeptHash, F: FnMut(&mut T) -> bool>(
     kept
 }
 
-// Whether a member is kept, once `f` was asked about it.
+// Asks `f` whether a member is kept.
 fn ask<T, H: KeptHash, F: FnMut(&mut T) -> bool>(member: &mut (Kept<H>, T), f: &mut F) -> bool
     requires { TakesAtMut F.FnMut f.old member.old.1 }
     ensures { AsksMember F.FnMut f.old member.old result f.new member.new }
@@ -72,8 +72,8 @@ fn ask<T, H: KeptHash, F: FnMut(&mut T) -> bool>(member: &mut (Kept<H>, T), f: &
     f(&mut member.1)
 }
 
-// Moves members back towards their homes, so that no empty slot is left on their ways. No way leads over `start`.
-#[tactic(auto, using(crate::proofs::Settling::homes))]
+// Moves members back towards their homes, so that no empty slot is left on their paths. No path leads over `start`.
+#[tactic(auto, using(crate::proofs::BackwardShiftPass::homes))]
 fn settle<T, H: KeptHash>(slots: &mut Slots<T, H>, tags: &mut [u8], start: usize)
     requires start { start < length slots.old }
     requires tagged { IsTagged tags.old slots.old }
@@ -99,7 +99,8 @@ fn settle<T, H: KeptHash>(slots: &mut Slots<T, H>, tags: &mut [u8], start: usize
     }
 }
 
-// Where a member moves: to the first empty slot on its way, where it stands behind its first window.
+// The slot that a member moves to. If it is outside its home's group, this is the first empty slot on its path, if there
+// is one; otherwise it is the member's own slot.
 fn moves_to<T, H: KeptHash>(slots: &Slots<T, H>, tags: &[u8], home: usize, slot: usize) -> usize
     requires tagged { IsTagged tags.now slots.now }
     requires home { home < length slots.now }
@@ -116,8 +117,8 @@ fn moves_to<T, H: KeptHash>(slots: &Slots<T, H>, tags: &[u8], home: usize, slot:
     }
 }
 
-// The first empty slot from one on, or `end` where none comes before it.
-#[tactic(auto, using(crate::proofs::Settling::free_way))]
+// The first empty slot from `start` on, or `end` if none comes before it.
+#[tactic(auto, using(crate::proofs::BackwardShiftPass::free_way))]
 fn free_before<T, H: KeptHash>(slots: &Slots<T, H>, tags: &[u8], start: usize, end: usize) -> usize
     requires tagged { IsTagged tags.now slots.now }
     requires start { start < length slots.now }

@@ -1,4 +1,4 @@
-//! A tag of one byte for each slot: what a search reads to tell where a hash may be, and which slots are empty.
+//! Tags, one byte for each slot. By them a search sees where a hash may be and which slots are empty.
 ghost use Rattle.std.specs.Prelude.{◌≡◌, ℕ, ◌+◌, ◌-◌, ◌<◌, ◌≤◌, ◌≢◌, None, false, length, slice_index_or};
 ghost use Rattle.starlark_table.specs.Layout.{tag, at, window, tag_count, tag_bits, hash_tag_bits, empty_tag, AreDoubled, BitsUpToEmpty, IsBetweenEmpty, IsTagged, HasTags, IsPadded};
 
@@ -6,12 +6,12 @@ use crate::kept_hash::KeptHash;
 use crate::probe::Slots;
 use std::simd::prelude::*;
 
-// How many tags a step of a search looks at. There are so many more tags than slots, so that it may look from each
-// slot on.
+// The size of a group: how many tags a search compares at once. There are this many more tags than slots, so that a
+// group may begin at each slot.
 pub(crate) const WINDOW: usize = 16;
 
-// How many tags a walk over all slots looks at, where so many are left. The processor foresees badly where the loop
-// over the full ones ends: once for so many tags is better than four times.
+// The size of a group in an iteration over all slots, if as many tags are left. The end of the loop over full slots is
+// often mispredicted, and one such end for 64 tags is better than four.
 const WIDE_WINDOW: usize = 64;
 
 // How many tags a hash may have.
@@ -20,10 +20,10 @@ const TAGS: u64 = 254;
 // The tag of an empty slot.
 pub(crate) const EMPTY: u8 = 255;
 
-// What stands behind the tags of the slots: neither the tag of a hash nor that of an empty slot.
+// The tags behind those of the slots: neither the tag of a hash nor that of an empty slot.
 pub(crate) const PADDING: u8 = 254;
 
-// The tag of a number: the more there are, the fewer other hashes a search looks at.
+// The tag of a hash, by its number. The more tags there are, the fewer other hashes a search compares.
 #[inline]
 #[tactic(auto, unfolding(crate::specs::Layout::tag))]
 pub(crate) fn tag(number: u64) -> u8
@@ -32,7 +32,7 @@ pub(crate) fn tag(number: u64) -> u8
     ((((number >> 16) & 0xffff) * TAGS) >> 16) as u8
 }
 
-// How many tags there are beside these slots.
+// The number of tags beside these slots.
 #[inline]
 #[tactic(auto, using(crate::proofs::TagCount::tags_fit))]
 pub(crate) fn tags_beside<T, H: KeptHash>(slots: &Slots<T, H>) -> usize
@@ -43,7 +43,7 @@ pub(crate) fn tags_beside<T, H: KeptHash>(slots: &Slots<T, H>) -> usize
     if count == 0 { 0 } else { count + WINDOW }
 }
 
-// A bit for each slot of the window from one on: whether it has this tag.
+// A bit for each slot of the group from `start` on: whether it has this tag.
 #[inline]
 pub(crate) fn slots_with(tags: &[u8], start: usize, tag: u8) -> u64
     requires { start + window ≤ length tags.now }
@@ -53,7 +53,7 @@ pub(crate) fn slots_with(tags: &[u8], start: usize, tag: u8) -> u64
     lanes.simd_eq(u8x16::splat(tag)).to_bitmask()
 }
 
-// A bit for each slot of the window from one on, up to the first with the empty tag: whether it has this tag.
+// A bit for each slot of the group from `start` on, up to the first with the empty tag: whether it has this tag.
 #[inline]
 pub(crate) fn slots_up_to_empty(tags: &[u8], start: usize, tag: u8) -> u64
     requires { start + window ≤ length tags.now }
@@ -67,8 +67,8 @@ pub(crate) fn slots_up_to_empty(tags: &[u8], start: usize, tag: u8) -> u64
     same & ((1 << empty.trailing_zeros()) - 1)
 }
 
-// Whether a member behind the first window of its search may have this slot, which is full, on its way: there are no
-// empty slots on both sides of it, or they are more than sixteen slots apart.
+// Whether the path of an overflowed member may lead over this full slot. It may not if there are empty slots on both sides
+// that are at most sixteen slots apart.
 #[inline]
 pub(crate) fn is_passed(tags: &[u8], slot: usize) -> bool
     requires room { slot + 1 + window ≤ length tags.now }
@@ -81,7 +81,7 @@ pub(crate) fn is_passed(tags: &[u8], slot: usize) -> bool
     }
     let apart = behind.trailing_zeros();
     if slot >= WINDOW {
-        // Where this window lies does not hang on the other, so both are read at once.
+        // This group does not depend on the other one, so both are read at once.
         return slots_with(tags, slot - WINDOW, EMPTY) >> apart == 0;
     }
     let end = slot + 1 + apart as usize;
@@ -92,7 +92,8 @@ pub(crate) fn is_passed(tags: &[u8], slot: usize) -> bool
     slots_with(tags, end - 1 - WINDOW, EMPTY) == 0
 }
 
-// A bit for each slot of a window from one on: whether it is full. With the bits the end of that window.
+// A bit for each slot of the group from `start` on: whether it is full. The second part of the result is the end of the
+// group.
 #[inline]
 pub(crate) fn full_slots(tags: &[u8], start: usize) -> (u64, usize)
     requires { start + window ≤ length tags.now }
@@ -112,7 +113,7 @@ pub(crate) fn full_slots(tags: &[u8], start: usize) -> (u64, usize)
     }
 }
 
-// Writes the tag of each slot, where all are empty.
+// Writes the empty tag for each slot. All slots are empty.
 pub(crate) fn untag<T, H: KeptHash>(tags: &mut [u8], slots: &Slots<T, H>)
     requires sized { HasTags tags.old slots.now }
     requires padded { IsPadded tags.old slots.now }

@@ -1,4 +1,5 @@
--- What look-ups find, under a hash that is brought too, is among the values of some pairs, and each of these is found.
+-- Look-ups, also under a supplied hash: what they find is one of the values of some pairs, and each of these values is
+-- found.
 use Rattle.starlark_hash.proofs.Common.{◌≡◌, Bool, true, List, [], ◌∷◌, Option, Some, None, refl, sym, ◌∙◌, nat_tests, ℕ, ◌<◌, length, slice_get, arith, IfSome, IsEquivalence, HashWrites, values_of, IsKeyTest, and_parts, slice_get-get_or, slice_get_within, get_or_from_slice_get}
 use Rattle.std.specs.List.{IsAmong}
 use Rattle.starlark_hash.specs.Hasher.{own_hash}
@@ -12,7 +13,7 @@ use Rattle.std.proofs.lemmas.Map.Made.{Contains-from_values_of}
 use Rattle.std.proofs.lemmas.Map.Views.{IfSome-lookup_from_All}
 
 module _ {K V : Type 0} (feeds : K → HashWrites) (hash : StarlarkHashValue) (t : K → Bool) (eq : K → K → Bool) (alike : (x y : K) → eq x y ≡ true → feeds x ≡ feeds y) (one : IsKeyTest eq t) where
-  -- the keys that pass are equal, so one whose own hash it is stands for all
+  -- keys that pass are equal to each other, so that the hash may be tested at any of them
   found-passing : (key : K) → t key ≡ true → has_own_hash feeds hash key ≡ true → (ps : List (K × V)) → found (under_own feeds hash t) ps ≡ found t ps
   unfolding found
   found-passing key does own [] = refl
@@ -27,7 +28,7 @@ module _ {K V : Type 0} (feeds : K → HashWrites) (hash : StarlarkHashValue) (t
     pub own-under : (key : K) → hash ≡ own_hash feeds key → t ≡ eq key → found (eq key) (pairs_of m) ≡ found (under_own feeds hash t) (pairs_of m)
     own-under key is same = rw (← same) (sym (found-passing key (rw same (laws.refl key)) (grind (arith, nat_tests, is)) (pairs_of m)))
 
-    -- what is found under a hash that is supplied, of which a look-up without a hash tells as well
+    -- what a look-up under a supplied hash finds, and what it says of a look-up without a hash
     pub record FindsUnder (r : Option V) : Type 0 where
       pub own : (same : K) → hash ≡ own_hash feeds same → t ≡ eq same → found (eq same) (pairs_of m) ≡ r
       pub found : IfSome r (λ value. found t (pairs_of m) ≡ Some value)
@@ -45,7 +46,7 @@ module _ {K V : Type 0} (eq : K → K → Bool) (laws : IsEquivalence eq) (ps : 
   value-found i None at = tt
   value-found i (Some v) at = let (k, there) = Contains-from_values_of ps v (i, slice_get_within (values_of ps) i v at, get_or_from_slice_get (values_of ps) i v v at) in (k, only (eq k) ps k v (laws.refl k) (distinct k) there)
 
-  -- where no two keys are equal
+  -- if no two keys are equal, each of the values is found
   pub values-found : (values : List V) → values ≡ values_of ps → AreFound eq ps values
   unfolding found
   values-found values are =

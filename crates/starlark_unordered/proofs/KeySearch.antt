@@ -1,27 +1,27 @@
--- A search of the items of a hash, as a search of their keys.
+-- A search of the items of a hash, seen as a search of their keys.
 use Rattle.starlark_hash.proofs.Common.{◌≡◌, ℕ, suc, ◌+◌, ◌<◌, ◌^◌, Bool, true, false, nat_eq, List, [], ◌∷◌, ◌++◌, map, Option, Some, None, refl, ap, sym, subst, arith, Bor, Mut, CalledAt, TakesAt, All, Contains, enumerate_from, HashWrites, All-tail, IsPermutation-map, IsPermutation-sym, Contains-permutation, none-some, same_Some, IfSome, map-append, nat_tests, All-head, filter, is_some}
 use Rattle.starlark_hash.specs.Hasher.{hash_of_writes, own_hash}
 use Rattle.starlark_hash.specs.HashValue.{hash_number, promoted}
 use Rattle.starlark_hash.specs.declared.hash_value.StarlarkHashValue.{StarlarkHashValue}
-use Rattle.starlark_hash.proofs.Promote.{promoted-injective}
+use Rattle.starlark_hash.proofs.Promotion.{promoted-injective}
 use Rattle.starlark_unordered.specs.Pairs.{has_own_hash, keys_from, keys_under}
 use Rattle.starlark_unordered.specs.Sound.{IsKeyed, keyed, home_of}
 use Rattle.starlark_hash.specs.Search.{Asks, Searches, Refuses, CanSearch}
 use Rattle.starlark_table.specs.Table.{Table, members, filled, holders, items_under, item_in}
 use Rattle.starlark_table.proofs.TableLemmas.{member_at-items_under}
 
--- the same names, each with its key
+-- the numbered items, each replaced by its key
 abbrev pub named_keys : {K V : Type 0} → List (ℕ × (K × V)) → List (ℕ × K)
 named_keys ps = map (λ s. (s.0, s.1.0)) ps
 
--- an own hash has 32 bits
+-- a key's own hash has 32 bits
 own-fits : (writes : HashWrites) → hash_number (hash_of_writes writes) < 2 ^ 32
 unfolding hash_of_writes
 own-fits writes = omega arith
 
--- where each key is stored under its own hash, the keys of a hash are those that have it
+-- if each key is stored under its own hash, the keys found under a hash are those whose own hash it is
 module _ {K : Type 0} (feeds : K → HashWrites) (hash : StarlarkHashValue) (fits : hash_number hash < 2 ^ 32) where
-  -- two own hashes are promoted alike only where they are the same
+  -- two own hashes have one promoted hash only if they are equal
   pub same_test : (key : K) (h : ℕ) → h ≡ home_of feeds key → nat_eq h (promoted (hash_number hash)) ≡ has_own_hash feeds hash key
   same_test key h own = grind (arith, nat_tests, own, promoted-injective (hash_number (own_hash feeds key)) (hash_number hash) (own-fits (feeds key)) fits)
 
@@ -38,7 +38,7 @@ module _ {K V : Type 0} (feeds : K → HashWrites) (hash : StarlarkHashValue) (f
   pub named-items_under : (eq : K → K → Bool) (m : Table (K × V)) → IsKeyed eq feeds (keyed (members m)) → named_keys (items_under (promoted (hash_number hash)) m) ≡ keys_under feeds hash m
   named-items_under eq m keys = named-holders 0 m.slots keys.own
 
--- w, asked about a pair, asks g about its key; inner is g's state in w's
+-- The closure w is called on a pair and calls g on its key. `inner` is the state of g in the state of w.
 module _ {C F K V : Type 0} (g : Mut F (Bor K × Unit {0}) Bool) (w : Mut C (Bor (K × V) × Unit {0}) Bool) (inner : C → F)
     (carries : (s t : C) (b : Bool) (x : K × V) → CalledAt w s x b t → CalledAt g (inner s) x.0 b (inner t)) where
   asks_keys : (order : List (ℕ × (K × V))) (s last : C) (answer : Option ℕ) → Asks w s order answer last → Asks g (inner s) (named_keys order) answer (inner last)
@@ -62,7 +62,7 @@ module _ {C F K V : Type 0} (g : Mut F (Bor K × Unit {0}) Bool) (w : Mut C (Bor
         takes later p.1 (can.at (named_keys before) (p.0, p.1.0) (named_keys after) (inner later) named (refuses_keys before s later refused));
   }
 
--- what is said of a key, of an equal one
+-- a call on a key is a call on an equal one
 pub called_same : {F K : Type 0} (g : Mut F (Bor K × Unit {0}) Bool) (f f' : F) (b : Bool) (k l : K) → k ≡ l → CalledAt g f k b f' → CalledAt g f l b f'
 called_same g f f' b k l e called = subst (λ k. CalledAt g f k b f') e called
 

@@ -1,4 +1,4 @@
--- What a search by a query answers, under its own hash or under one that is brought: the slot of the key, and its item.
+-- What a search by a query returns, under the query's own hash or under a supplied one: the slot of the key, and its item.
 use Rattle.starlark_hash.proofs.Common.{◌≡◌, ℕ, ◌<◌, ◌^◌, Bool, true, Option, Some, None, sym, ap, ◌∙◌, Bor, Mut, IsEquivalence, HashWrites, IsKeyTest, option_and_then, option_map, arith, nat_tests, and_parts}
 use Rattle.starlark_hash.specs.HashValue.{hash_number, promoted}
 use Rattle.starlark_hash.specs.declared.hash_value.StarlarkHashValue.{StarlarkHashValue}
@@ -15,13 +15,14 @@ use Rattle.starlark_unordered.proofs.KeySearch.{same_test}
 module _ {C K V : Type 0} (w : Mut C (Bor (K × V) × Unit {0}) Bool) (eq : K → K → Bool) (feeds : K → HashWrites) (laws : IsEquivalence eq) (t : K → Bool) (one : IsKeyTest eq t)
     (m : Table (K × V)) (keys : IsKeyed eq feeds (keyed (members m))) (f last : C) (test : IsTest w (λ (p : K × V). t p.0) f) (home : ℕ) (answer : Option ℕ)
     (search : Searches w (items_under home m) f answer last) where
-  -- under the hash of each key that passes
+  -- the slot that is found under the hash of each key that passes
   pub slot_by_query : ((k : K) → t k ≡ true → home_of feeds k ≡ home) → IsSlotOf t m answer
   slot_by_query own =
       slot_of eq feeds laws t one home m keys own answer
       (test-refused w (λ p. t p.0) f test _ answer last search) (λ n. test-accepted w (λ p. t p.0) f test _ answer last n search)
 
-  -- under a hash that is brought: equal keys have one own hash, and a key in a slot of the hash has it as its own
+  -- the slot that is found under a supplied hash: equal keys have one own hash, and the slots found under the hash are those
+  -- of keys that have it as their own
   pub slot_by_hashed : ((x y : K) → eq x y ≡ true → feeds x ≡ feeds y) → (hash : StarlarkHashValue) → hash_number hash < 2 ^ 32 → home ≡ promoted (hash_number hash) → IsSlotOf (under_own feeds hash t) m answer
   slot_by_hashed alike hash fits is =
       let own = has_own_hash feeds hash in
@@ -33,7 +34,7 @@ module _ {C K V : Type 0} (w : Mut C (Bor (K × V) × Unit {0}) Bool) (eq : K �
       let stands = own_of eq feeds (members m) (home, x) keys (members-member_at m n (home, x) (member_at-items_under home m (n, x) there)) in
       (x, there, and_from (own x.0) (t x.0) (grind (arith, nat_tests, same_test feeds hash fits x.0 home stands, is)) does))
 
--- the item in the slot of the key has its value
+-- the item in the slot of the key has the key's value
 pub value_of-slot : {K V : Type 0} (t : K → Bool) (m : Table (K × V)) (slot : Option ℕ) → IsSlotOf t m slot → option_map (λ p. p.1) (option_and_then (item_in m) slot) ≡ found t (pairs_of m)
 value_of-slot t m None none = sym none
 value_of-slot t m (Some n) there = ap (option_map (λ p. p.1)) there.at ∙ sym there.found

@@ -5,14 +5,14 @@ use Rattle.starlark_unordered.specs.Lookup.{get, Trades, Updates}
 use Rattle.starlark_unordered.specs.Pairs.{pairs_of}
 
 module _ {K V : Type 0} (eq : K → K → Bool) (old new : Table (K × V)) (key : K) where
-  -- new is old and one pair more, of a key that old lacks
+  -- new is old with one more pair, whose key old lacks
   pub record AddsPair (value : V) : Type 0 where
     pub updates : Updates eq old new key (Some value)
     pub count : length (pairs_of new) ≡ length (pairs_of old) + 1
     pub total : Trades old new None (Some value)
     pub pairs : IsPermutation ((key, value) ∷ pairs_of old) (pairs_of new)
 
-  -- the pair of a key that old lacks was refused for want of room, and nothing changed
+  -- the insertion of a pair whose key old lacks was refused because there was no room, and nothing changed
   pub record IsRefusedPair : Type 0 where
     pub lacking : get eq old key ≡ None
     pub full : old.room ≡ 0

@@ -1,4 +1,4 @@
--- What the iterators of a map show.
+-- Definitions for the iterators of a map.
 use Rattle.std.specs.Prelude.{◌≡◌, ◌<◌, ℕ, Bool, List, length, slice_get, Option, Some, IfSome}
 use Rattle.std.specs.Iterator.{UpTo, at_most}
 use Rattle.std.specs.Iterator.SizeHint.{IsWithinCount}
@@ -10,7 +10,7 @@ module _ {K V : Type 0} where
   AreFound eq ps values = ((key : K) → IfSome (found (eq key) ps) (λ v. (index : ℕ) × (index < length values) × (slice_get values index ≡ Some v)))
       × ((index : ℕ) → IfSome (slice_get values index) (λ v. (key : K) × (found (eq key) ps ≡ Some v)))
 
--- the hint of an iterator that has `many` left: it says just that
+-- the size hint is exact for an iterator that has `many` items left
 pub record HintsExactly (many : ℕ) (hint : ℕ × Option ℕ) : Type 0 where
   pub lower : IsWithinCount hint.0 (at_most many)
   pub upper : IfSome hint.1 (UpTo (at_most many))

@@ -1,5 +1,5 @@
--- What a caller of an `UnorderedMap` and of an `UnorderedSet` says of it. The words have the names of those on a `SmallMap`,
--- and speak of pairs, without a hash.
+-- The definitions by which callers describe an `UnorderedMap` and an `UnorderedSet`. They have the names of those for a
+-- `SmallMap`, and speak of pairs, without a hash.
 unfoldable pub use Rattle.starlark_unordered.specs.Pairs.{found}
 use Rattle.std.specs.Prelude.{◌≡◌, ◌+◌, ℕ, Bool, false, List, Option, None, is_some}
 use Rattle.std.specs.List.{sum_by}
@@ -23,7 +23,7 @@ module _ {Q K V : Type 0} (equivalent : Q → K → Bool) where
   abbrev pub contains : Table (K × V) → Q → Bool
   contains m query = is_some (get m query)
 
-  -- the value at the key that a query stands for, where the hash beside the query is that key's own
+  -- the value at the key that a query stands for, if the supplied hash is that key's own
   abbrev pub get_under : (K → HashWrites) → Table (K × V) → Hashed Q → Option V
   get_under feeds m query = found (under_own feeds (hash_of query) (equivalent (key_of query))) (pairs_of m)
 
@@ -41,14 +41,14 @@ module _ {K V : Type 0} (eq : K → K → Bool) where
 abbrev pub IsEmpty : {K V : Type 0} → Table (K × V) → Type 0
 IsEmpty {K = K} m = (test : K → Bool) → found test (pairs_of m) ≡ None
 
--- the value at the string of these bytes
+-- the value at the string with these bytes
 abbrev pub get_text : {A V : Type 0} → Table (String A × V) → List ℕ → Option V
 get_text m text = found (λ k. bytes_eq text (string_bytes k)) (pairs_of m)
 
--- what the values of some pairs weigh together, in whatever order
+-- the total weight of the values of some pairs, in any order
 abbrev pub total_of : {K V : Type 0} → (V → ℕ) → List (K × V) → ℕ
 total_of measure ps = sum_by measure (values_of ps)
 
--- by any measure, the values of new weigh what those of old do, with `value` in the place of `was`; either may be lacking
+-- by any measure, the values of new weigh what those of old weigh, with `value` in place of `was`; either may be absent
 abbrev pub Trades : {K V : Type 0} → Table (K × V) → Table (K × V) → Option V → Option V → Type 0
 Trades {V = V} old new was value = (measure : V → ℕ) → total_of measure (pairs_of new) + weight_of measure was ≡ total_of measure (pairs_of old) + weight_of measure value

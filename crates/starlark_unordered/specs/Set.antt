@@ -1,14 +1,14 @@
--- What a contract sees of an `UnorderedSet`: the map to `()`.
+-- The definitions by which contracts describe an `UnorderedSet`, which is a map to `()`.
 use Rattle.std.specs.Prelude.{List}
 use Rattle.std.specs.Map.{keys_of}
 use Rattle.starlark_table.specs.Table.{Table}
 use Rattle.starlark_unordered.specs.Pairs.{pairs_of}
 
--- what a set is seen as: the table of a map to `()`
+-- the view of a set: the table of a map to `()`
 abbrev pub Set : Type 0 → Type 0
 Set T = Table (T × Unit {0})
 
 module _ {T : Type 0} where
-  -- the elements in the order of the walk, which no clause promises
+  -- the elements in the order of iteration, which no clause promises
   abbrev pub elements_of : Set T → List T
   elements_of s = keys_of (pairs_of s)

@@ -1,4 +1,4 @@
--- What an `UnorderedSet` ends as, once a raw entry of it has ended.
+-- What an `UnorderedSet` ends as after a raw entry of it has ended.
 use Rattle.std.specs.Borrow.{Fml, RattleType, MutBor, follows, unit}
 use Rattle.starlark_unordered.specs.Lend.{HashMembers, map_row}
 use Rattle.starlark_unordered.specs.Set.{Set}

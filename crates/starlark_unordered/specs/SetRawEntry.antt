@@ -1,4 +1,4 @@
--- What the contracts of a set's raw entries cite.
+-- The definitions that the contracts of a set's raw entries cite.
 pub use Rattle.starlark_unordered.specs.declared.unordered_set.raw_entry.RawEntryMut.TheVariants.{Occupied, Vacant}
 use Rattle.std.specs.Prelude.{ℕ, Option, Some, None}
 use Rattle.std.specs.Option.{option_map}
@@ -26,6 +26,6 @@ module _ {T : Type 0} {g : eq.Ghosts T} {h : hash.Ghosts T} where
   abbrev pub stored_element : RawOccupiedEntryMut T g h → Option T
   stored_element o = option_map (λ p. p.0) (item_in o.map.now o.slot)
 
-  -- the entry, once this is its element
+  -- the entry with this element, and otherwise unchanged
   abbrev pub with_raw_element : RawOccupiedEntryMut T g h → T → RawOccupiedEntryMut T g h
   with_raw_element o element = record { map = record o.map { now = with_key o.map.now o.slot element }; slot = o.slot; there = key_still_there o.map.now o.slot element o.there }

@@ -1,4 +1,4 @@
-//! A walk that fills a map of the standard library.
+//! The loop that fills a map of the standard library.
 ghost use Rattle.std.specs.Prelude.{◌++◌, map, OnOk, IsPermutation};
 ghost use Rattle.starlark_unordered.specs.Pairs.{HasDistinctKeys};
 
@@ -8,7 +8,7 @@ use std::alloc::AllocError;
 use std::collections::HashMap;
 use std::hash::Hash;
 
-// Puts each pair of the walk in, under keys that are all new.
+// Inserts each pair of the iterator. All keys are new.
 pub(crate) fn move_pairs<K: Eq + Hash + Drop, V: Drop>(
     mut walk: IntoIter<(K, V), StarlarkHashValue>,
     moved: &mut HashMap<K, V>,

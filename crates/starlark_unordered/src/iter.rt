@@ -1,4 +1,4 @@
-//! The iterators of an `UnorderedMap`. Each goes along the walk, and is seen as the list of what it has left.
+//! The iterators of an `UnorderedMap`. Each is seen as the list of what it has left.
 ghost use Rattle.std.specs.Prelude.{◌≡◌, length};
 ghost use Rattle.std.specs.Iterator.{at_most};
 ghost use Rattle.std.specs.Map.{keys_of, values_of};
@@ -10,7 +10,7 @@ use starlark_table::Iter;
 use std::iter::FusedIterator;
 use std::marker::Model;
 
-/// The pairs of a map, each as `(&K, &V)`.
+/// The iterator over the pairs of a map, each as `(&K, &V)`.
 #[derive(Drop)]
 pub struct Entries<'a, K, V> {
     inner: Iter<'a, (K, V), StarlarkHashValue>,
@@ -64,7 +64,7 @@ impl<'a, K, V> ExactSizeIterator for Entries<'a, K, V> {
 
 impl<'a, K, V> FusedIterator for Entries<'a, K, V> {}
 
-/// The keys of a map, each by `&`.
+/// The iterator over the keys of a map, each by `&`.
 #[derive(Drop)]
 pub struct KeysUnordered<'a, K, V> {
     inner: Entries<'a, K, V>,
@@ -119,7 +119,7 @@ impl<'a, K, V> ExactSizeIterator for KeysUnordered<'a, K, V> {
 
 impl<'a, K, V> FusedIterator for KeysUnordered<'a, K, V> {}
 
-/// The values of a map, each by `&`.
+/// The iterator over the values of a map, each by `&`.
 #[derive(Drop)]
 pub struct ValuesUnordered<'a, K, V> {
     inner: Entries<'a, K, V>,

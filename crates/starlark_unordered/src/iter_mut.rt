@@ -1,5 +1,5 @@
-//! The iterators that lend the values of an `UnorderedMap` for writing. Each is seen as the pairs that are left, and the
-//! name of its loan.
+//! The mutable iterators over the values of an `UnorderedMap`. Each is seen as the pairs that are left, and the name of its
+//! loan.
 ghost use Rattle.std.specs.Prelude.{◌≡◌, length};
 ghost use Rattle.std.specs.Iterator.{at_most};
 ghost use Rattle.std.specs.Map.{values_of};
@@ -12,10 +12,10 @@ use starlark_table::PairsMut;
 use std::iter::FusedIterator;
 use std::marker::Model;
 
-/// The pairs of a map, each as `(&K, &mut V)`.
+/// The mutable iterator over the pairs of a map, each as `(&K, &mut V)`.
 pub type EntriesMut<'a, K, V> = PairsMut<'a, K, V, StarlarkHashValue>;
 
-/// The values of a map, each by `&mut`.
+/// The mutable iterator over the values of a map, each by `&mut`.
 #[derive(Drop)]
 pub struct ValuesUnorderedMut<'a, K, V> {
     inner: EntriesMut<'a, K, V>,

@@ -1,4 +1,4 @@
-//! Laws of maps without an order, over the words of their contracts.
+//! Laws of maps without an order, over the definitions that their contracts cite.
 ghost use Rattle.std.specs.Prelude.{◌≡◌, IsPermutation, IsTrue};
 ghost use Rattle.starlark_unordered.specs.Bag.{same_bag};
 ghost use Rattle.starlark_unordered.specs.Pairs.{pairs_of, pair_eq, feed_pairs};

@@ -1,4 +1,4 @@
-//! Maps without an order: finite maps, which compare and hash alike whatever history built them.
+//! Finite maps without an order. They compare and hash alike whatever history built them.
 #![tactic(auto)]
 
 pub mod entry;

@@ -1,4 +1,4 @@
-//! Slots of a map that a query, or a hash and a closure choose.
+//! Raw entries: slots of a map, found by a query or by a hash and a closure.
 ghost use Rattle.std.specs.Prelude.{◌≡◌, ◌+◌, ◌∷◌, true, Some, None, IfErr, IfOk, IfSome, IsPermutation, OnErr};
 ghost use Rattle.std.specs.Borrow.{sem};
 ghost use Rattle.std.specs.Option.{is_some, option_map};
@@ -15,21 +15,21 @@ use starlark_hash::{HashQuery, Hashed, NoRoom, Query, StarlarkHashValue};
 use std::hash::Hash;
 use std::mem;
 
-/// A map whose slot is still to be named. Let go, it leaves the map as it was.
+/// A map whose slot has still to be chosen. Dropping this leaves the map unchanged.
 pub struct RawEntryBuilderMut<'a, K: Eq + Hash, V> {
     map: &'a mut UnorderedMap<K, V>,
 }
 
-/// The slot that was chosen, which has a pair or lacks one.
+/// The chosen slot, occupied by a pair or vacant.
 #[derive(Drop)]
 pub enum RawEntryMut<'a, K: Eq + Hash, V> {
     /// A pair was found.
     Occupied(RawOccupiedEntryMut<'a, K, V>),
-    /// None was.
+    /// No pair was found.
     Vacant(RawVacantEntryMut<'a, K, V>),
 }
 
-/// A pair that the map has.
+/// A pair of the map.
 #[derive(Drop)]
 pub struct RawOccupiedEntryMut<'a, K: Eq + Hash, V> {
     map: &'a mut UnorderedMap<K, V>,
@@ -37,13 +37,13 @@ pub struct RawOccupiedEntryMut<'a, K: Eq + Hash, V> {
     ghost there: { is_some (item_in map.now slot) ≡ true },
 }
 
-/// A map in which no pair was found. Let go, it leaves the map as it was.
+/// A map in which no pair was found. Dropping the entry leaves the map unchanged.
 pub struct RawVacantEntryMut<'a, K: Eq + Hash, V> {
     map: &'a mut UnorderedMap<K, V>,
 }
 
 impl<K: Eq + Hash, V> Drop for RawEntryBuilderMut<'_, K, V> {
-    // The map ends as it was.
+    // The map ends unchanged.
     fn drop(self)
         ensures { self.exit.0.now ≡ self.entry.map.now }
     {
@@ -52,7 +52,7 @@ impl<K: Eq + Hash, V> Drop for RawEntryBuilderMut<'_, K, V> {
 }
 
 impl<K: Eq + Hash, V> Drop for RawVacantEntryMut<'_, K, V> {
-    // The map ends as it was.
+    // The map ends unchanged.
     fn drop(self)
         ensures { self.exit.0.now ≡ self.entry.map.now }
     {
@@ -63,7 +63,7 @@ impl<K: Eq + Hash, V> Drop for RawVacantEntryMut<'_, K, V> {
 impl<K: Eq + Hash, V> UnorderedMap<K, V> {
     ghost use Rattle.starlark_unordered.specs.RawEntry.{HoldsMap};
 
-    /// The map, whose slot is to be named by a query, or by a hash and a closure.
+    /// A builder of raw entries of the map, whose slot is chosen by a query, or by a hash and a closure.
     #[inline]
     pub fn raw_entry_mut(&mut self) -> RawEntryBuilderMut<'_, K, V>
         ensures holds { HoldsMap self.entry result.map }
@@ -75,7 +75,7 @@ impl<K: Eq + Hash, V> UnorderedMap<K, V> {
 impl<'a, K: Eq + Hash, V> RawEntryBuilderMut<'a, K, V> {
     ghost use Rattle.starlark_unordered.specs.RawEntry.{map_of_raw, slot_of_raw, HoldsMap, IsRawEntryAt, NamesSlot};
 
-    /// The pair of the key that the query stands for, or vacant where the map lacks it. The map is as it was.
+    /// The pair of the key that the query stands for, or a vacant entry if the map lacks it. The map is unchanged.
     #[inline]
     pub fn from_key<Q: HashQuery<K>>(self, query: Q) -> RawEntryMut<'a, K, V>
         ensures entry { IsRawEntryAt K.eq (Q.stands_for query) self.entry.map.now result }
@@ -88,8 +88,8 @@ impl<'a, K: Eq + Hash, V> RawEntryBuilderMut<'a, K, V> {
         }
     }
 
-    /// The pair of the key that the query stands for, where the hash that is brought is its own, or else vacant. The
-    /// map is as it was.
+    /// The pair of the key that the query stands for, if the supplied hash is the key's own, or otherwise a vacant entry.
+    /// The map is unchanged.
     #[inline]
     pub fn from_key_hashed<Q: Query<K>>(self, key: Hashed<Q>) -> RawEntryMut<'a, K, V>
         ensures names { NamesSlot (under_own K.hash_input (hash_of key) (Q.stands_for (key_of key))) self.entry.map (map_of_raw result) (slot_of_raw result) }
@@ -101,10 +101,10 @@ impl<'a, K: Eq + Hash, V> RawEntryBuilderMut<'a, K, V> {
         }
     }
 
-    /// A pair whose key's own hash this is, and which `is_match` accepts. It is asked about keys of this hash alone,
-    /// about each at most once, in no promised order, until it accepts one; vacant says that it refused them all.
-    /// Required is no more than that it may be called on those keys, in the states that its refusals leave. The map is
-    /// as it was.
+    /// A pair whose key's own hash this is and which `is_match` accepts. `is_match` is called only on keys of this hash, at
+    /// most once on each and in no promised order, until it accepts one; a vacant entry says that it refused them all. The
+    /// call requires only that `is_match` may be called on those keys, in the states that its refusals leave. The map is
+    /// unchanged.
     pub fn from_hash<F: FnMut(&K) -> bool>(
         self,
         hash: StarlarkHashValue,
@@ -112,7 +112,7 @@ impl<'a, K: Eq + Hash, V> RawEntryBuilderMut<'a, K, V> {
     ) -> RawEntryMut<'a, K, V>
         requires { CanSearch F.FnMut (keys_under K.hash_input hash self.map.now) is_match }
         ensures holds { HoldsMap self.entry.map (map_of_raw result) }
-        // The slot of a key of this own hash that the closure accepts, or none where it refuses them all.
+        // The slot of a key of this own hash that the closure accepts, or none if it refuses them all.
         ensures found { (last : F) × Searches F.FnMut (keys_under K.hash_input hash self.entry.map.now) is_match (slot_of_raw result) last }
     {
         let RawEntryBuilderMut { map } = self;
@@ -126,7 +126,7 @@ impl<'a, K: Eq + Hash, V> RawEntryBuilderMut<'a, K, V> {
 impl<'a, K: Eq + Hash, V> RawOccupiedEntryMut<'a, K, V> {
     ghost use Rattle.starlark_unordered.specs.RawEntry.{raw_keeps, stored_raw, with_raw_key, with_raw_value, IsInPlace};
 
-    /// Puts this value in the place of the one that is there, which is answered. The other pairs stay.
+    /// Replaces the value of the pair, and returns the old one. The other pairs are unchanged.
     #[inline]
     pub fn insert(&mut self, value: V) -> V
         ensures old { option_map (λ p. p.1) (stored_raw self.old) ≡ Some result }
@@ -136,8 +136,8 @@ impl<'a, K: Eq + Hash, V> RawOccupiedEntryMut<'a, K, V> {
         mem::replace(self.get_mut(), value)
     }
 
-    /// Puts this key, which is to be equal, in the place of the one that is there, which is answered. The other pairs
-    /// stay.
+    /// Replaces the key of the pair, and returns the old one. The new key must be equal to it. The other pairs are
+    /// unchanged.
     #[inline]
     pub fn insert_key(&mut self, key: K) -> K
         requires { IfSome (stored_raw self.old) (λ p. K.eq key p.0 ≡ true) }
@@ -149,7 +149,7 @@ impl<'a, K: Eq + Hash, V> RawOccupiedEntryMut<'a, K, V> {
         self.map.replace_key(slot, key)
     }
 
-    /// The value.
+    /// The value of the pair.
     #[inline]
     pub fn get(&self) -> &V
         ensures { option_map (λ p. p.1) (stored_raw self.now) ≡ Some result.now }
@@ -157,7 +157,7 @@ impl<'a, K: Eq + Hash, V> RawOccupiedEntryMut<'a, K, V> {
         self.map.value_at(self.slot)
     }
 
-    /// The value, to be written. The map has what is left in it, and all else stays.
+    /// The value of the pair, for writing. The map has what is left in it, and all else is unchanged.
     #[inline]
     pub fn get_mut(&mut self) -> &mut V
         ensures* writes_back { sem 𝓛 (raw_keeps K.row V.row self.entry result) }
@@ -167,7 +167,7 @@ impl<'a, K: Eq + Hash, V> RawOccupiedEntryMut<'a, K, V> {
         self.map.value_at_mut(slot)
     }
 
-    /// Takes the pair out, and answers its value. The other pairs stay, and the room comes back.
+    /// Removes the pair, and returns its value. The other pairs are unchanged, and the room comes back.
     #[inline]
     pub fn remove(self) -> V
     where
@@ -181,7 +181,7 @@ impl<'a, K: Eq + Hash, V> RawOccupiedEntryMut<'a, K, V> {
         value
     }
 
-    /// Takes the pair out, and answers it. The other pairs stay, and the room comes back.
+    /// Removes the pair, and returns it. The other pairs are unchanged, and the room comes back.
     #[inline]
     pub fn remove_entry(self) -> (K, V)
         ensures pair { stored_raw self.entry ≡ Some result }
@@ -196,7 +196,9 @@ impl<'a, K: Eq + Hash, V> RawOccupiedEntryMut<'a, K, V> {
 impl<'a, K: Eq + Hash, V> RawVacantEntryMut<'a, K, V> {
     ghost use Rattle.starlark_unordered.specs.Lend.{lends_added, PutsPair};
 
-    /// Puts a key in under its own hash, as `insert_hashed` does under one that is brought.
+    /// Inserts a key under its own hash, which is computed here, and lends it with its value. The map must lack the key.
+    /// The map ends with one more pair, whose value is what is left behind the reference. It is refused if there is no room
+    /// and no memory is found: then key and value come back, and the map is unchanged.
     pub fn insert(self, key: K, value: V) -> Result<(&'a K, &'a mut V), NoRoom<(K, V)>>
         requires { get K.eq self.map.now key ≡ None }
         ensures* writes_back { sem 𝓛 (lends_added K.row V.row K.Hash self.entry.map key result) }
@@ -208,10 +210,9 @@ impl<'a, K: Eq + Hash, V> RawVacantEntryMut<'a, K, V> {
         lend_placed(self.place(key, value))
     }
 
-    /// Puts a key in under its own hash, which is brought, and lends it with its value. That the map lacks the key, and
-    /// that the hash is its own, are required. The map ends with one pair more, its value what is left behind the
-    /// reference. It is refused where there is no room and no memory is found: then key and value come back, and the
-    /// map is as it was.
+    /// Inserts a key under a supplied hash, and lends it with its value. The map must lack the key, and the hash must be
+    /// the key's own. The map ends with one more pair, whose value is what is left behind the reference. It is refused if
+    /// there is no room and no memory is found: then key and value come back, and the map is unchanged.
     pub fn insert_hashed(
         self,
         key: Hashed<K>,
@@ -228,7 +229,7 @@ impl<'a, K: Eq + Hash, V> RawVacantEntryMut<'a, K, V> {
         lend_placed(self.place_hashed(key, value))
     }
 
-    // Puts a new key in under its own hash, and answers the map with the slot, or the refusal.
+    // Inserts a new key under its own hash, and returns the map with the slot, or with the refusal.
     fn place(self, key: K, value: V) -> (&'a mut UnorderedMap<K, V>, Result<usize, NoRoom<(K, V)>>)
         requires { get K.eq self.map.now key ≡ None }
         ensures { PutsPair self.entry.map result.0 key value (key, value) result.1 }
@@ -239,7 +240,7 @@ impl<'a, K: Eq + Hash, V> RawVacantEntryMut<'a, K, V> {
         (map, placed)
     }
 
-    // The same under the key's own hash, which is brought.
+    // Inserts a new key under its own hash, which is supplied, and returns the map with the slot, or with the refusal.
     fn place_hashed(
         self,
         key: Hashed<K>,
@@ -262,7 +263,7 @@ impl<'a, K: Eq + Hash, V> RawVacantEntryMut<'a, K, V> {
     }
 }
 
-// The pair that was put into a slot, its value to be written, or the refusal.
+// Lends the pair in the slot, its value for writing, or passes the refusal on.
 fn lend_placed<'a, K: Eq + Hash, V, E>(
     placed: (&'a mut UnorderedMap<K, V>, Result<usize, E>),
 ) -> Result<(&'a K, &'a mut V), E>

@@ -1,4 +1,4 @@
-//! The map. It alone sees its table.
+//! The map. No other module sees its table.
 ghost use Rattle.std.specs.Prelude.{◌≡◌, ◌==◌, ◌≤◌, [], IfOk, IsOk, length};
 ghost use Rattle.starlark_table.specs.Growth.{most_for};
 ghost use Rattle.starlark_unordered.specs.Lookup.{IsEmpty};
@@ -20,16 +20,16 @@ use std::alloc::{AllocError, Global};
 use std::hash::Hash;
 use std::marker::Model;
 
-/// A map without an order: pairs without two equal keys. It is seen as a table of pairs, each under its key's own hash,
-/// promoted to 64 bits. `pairs_of` lists them in an order that nothing promises.
+/// A map without an order: pairs, no two of which have equal keys. It is seen as a table of pairs, each stored under its
+/// key's own hash, promoted to 64 bits. `pairs_of` lists them in an order that nothing promises.
 ///
-/// `==` is true of maps with equal pairs, whatever their order. `Hash` feeds the length, and then the sum of the pairs'
-/// hashes in 64 bits.
+/// `==` is true of maps with equal pairs, in any order. `Hash` feeds the length, and then the sum of the pairs' hashes in
+/// 64 bits.
 #[derive(Drop)]
 pub struct UnorderedMap<K: Eq + Hash, V> {
-    // It keeps of each hash the 32 bits that are promoted.
+    // The table stores the 32 bits of each hash, which it promotes when it needs the 64.
     table: ReadyTable<(K, V), StarlarkHashValue>,
-    // Where `map_values` gets its memory.
+    // The allocator that `map_values` uses.
     alloc: Global,
 }
 
@@ -58,8 +58,8 @@ impl<K: Eq + Hash, V> UnorderedMap<K, V> {
         }
     }
 
-    /// An empty map with room for so many pairs at least, and for twice as many, or 6, at most. Where memory is refused,
-    /// nothing is made; capacity 0 is not refused.
+    /// An empty map with room for at least `capacity` pairs, and for at most twice as many, or 6. If memory is refused,
+    /// nothing is made. Capacity 0 is never refused.
     #[tactic(auto, using(crate::proofs::Callers::callers))]
     pub fn with_capacity(alloc: Global, capacity: usize) -> Result<Self, AllocError>
         ensures empty { IfOk result (λ map. pairs_of map ≡ []) }
@@ -74,7 +74,7 @@ impl<K: Eq + Hash, V> UnorderedMap<K, V> {
         })
     }
 
-    /// How many pairs there are.
+    /// The number of pairs.
     #[inline]
     pub fn len(&self) -> usize
         ensures len { result ≡ length (pairs_of self.now) }
@@ -91,7 +91,7 @@ impl<K: Eq + Hash, V> UnorderedMap<K, V> {
         self.table.len() == 0
     }
 
-    /// How many new pairs surely need no memory.
+    /// How many new pairs certainly need no memory.
     #[inline]
     pub fn room(&self) -> usize
         ensures { result ≡ self.now.room }

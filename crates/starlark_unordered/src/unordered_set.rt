@@ -23,11 +23,11 @@ use std::hash::Hash;
 use std::marker::Model;
 
 /// A set without an order: elements of which no two are equal. It is seen as the map from the elements to `()`, and
-/// compared as that is.
+/// compares by that map.
 #[derive(Drop)]
 pub struct UnorderedSet<T: Eq + Hash> {
     map: UnorderedMap<T, ()>,
-    // Where `entries_sorted` gets its memory.
+    // The allocator that `entries_sorted` uses.
     alloc: Global,
 }
 
@@ -54,8 +54,8 @@ impl<T: Eq + Hash> UnorderedSet<T> {
         }
     }
 
-    /// An empty set with room for so many elements at least, and for twice as many, or 6, at most. Where memory is
-    /// refused, nothing is made; capacity 0 is not refused.
+    /// An empty set with room for at least `capacity` elements, and for at most twice as many, or 6. If memory is refused,
+    /// nothing is made. Capacity 0 is never refused.
     pub fn with_capacity(alloc: Global, capacity: usize) -> Result<Self, AllocError>
         ensures empty { IfOk result (λ set. pairs_of set ≡ []) }
         ensures found { IfOk result (λ set. IsEmpty set) }
@@ -69,22 +69,23 @@ impl<T: Eq + Hash> UnorderedSet<T> {
         })
     }
 
-    /// Puts the element in, and answers whether it is new. One that is there stays, and this one is dropped. Only a new
-    /// element is refused, where there is no room and no memory is found: then it comes back, and the set is as it was.
-    /// It grows only at room 0, to room for twice its elements, or for 6, at most.
+    /// Inserts the element, and returns whether it is new. If an equal one is there, it is kept, and this one is dropped.
+    /// Only a new element is refused, if there is no room and no memory is found: then it comes back, and the set is
+    /// unchanged. The set grows only at room 0, to room for at most twice its elements, or for 6.
     pub fn insert(&mut self, element: T) -> Result<bool, NoRoom<T>>
     where
         T: Drop,
         // Done: true says that the set lacked the element.
         ensures old { IfOk result (λ is_new. is_new ≡ not (contains T.eq self.old element)) }
-        // The set has the element, and of all others those that it had. As a list, and by their number.
+        // The set has the element, and of all others those that it had. The next clauses say so of the list of elements and
+        // of their number.
         ensures updates { OnOk result (Updates T.eq self.old self.new element (Some tt)) }
         ensures pairs { OnOk result (IsPermutation (with_pair T.eq element tt (pairs_of self.old)) (pairs_of self.new)) }
         ensures count { OnOk result (length (pairs_of self.new) ≡ length (pairs_of self.old) + (if contains T.eq self.old element then 0 else 1)) }
-        // Refused: only a new element, only at room 0. It comes back, and the set is as it was.
+        // Refused: only a new element, only at room 0. It comes back, and the set is unchanged.
         ensures refused { OnErr result (IsRefusedPair T.eq self.old self.new element) }
         ensures handed_back { IfErr result (λ refused. refused.0 ≡ element) }
-        // It grows only for an element that does not fit.
+        // The set grows only for an element that does not fit.
         ensures memory { GrowsAsNeeded self.old self.new }
     {
         match self.map.insert(element, ()) {
@@ -93,7 +94,7 @@ impl<T: Eq + Hash> UnorderedSet<T> {
         }
     }
 
-    /// Removes every element. The room comes back.
+    /// Removes every element. Their room comes back.
     pub fn clear(&mut self)
     where
         T: Drop,
@@ -112,7 +113,7 @@ impl<T: Eq + Hash> UnorderedSet<T> {
         self.map.is_empty()
     }
 
-    /// How many elements there are.
+    /// The number of elements.
     #[inline]
     pub fn len(&self) -> usize
         ensures len { result ≡ length (pairs_of self.now) }
@@ -133,14 +134,15 @@ impl<T: Eq + Hash> UnorderedSet<T> {
     #[inline(always)]
     pub fn contains_hashed<Q: Query<T>>(&self, element: Hashed<Q>) -> bool
         ensures value { result ≡ is_some (get_under Q.stands_for T.hash_input self.now element) }
-        // So a look-up without a hash finds the element, and tells it of an equal one with this own hash.
+        // If it is found, a look-up without a hash finds the element. If an equal one with this own hash is there, it is
+        // found here too.
         ensures found { result ≡ true → contains Q.stands_for self.now (key_of element) ≡ true }
         ensures own { (same : T) → hash_of element ≡ own_hash T.hash_input same → Q.stands_for (key_of element) ≡ T.eq same → contains T.eq self.now same ≡ result }
     {
         self.map.contains_key_hashed(element)
     }
 
-    /// The elements, each once, in ascending order. Refused only for want of memory.
+    /// The elements, each once, in ascending order. Refused only if memory is refused.
     pub fn entries_sorted(&self) -> Result<Vec<&T>, AllocError>
     where
         T: Ord,
@@ -156,11 +158,11 @@ impl<T: Eq + Hash> UnorderedSet<T> {
 impl<T: Eq + Hash + Clone> UnorderedSet<T> {
     ghost use Rattle.starlark_unordered.specs.Set.{elements_of};
 
-    /// A set of clones of the elements, each in its original's slot, with as much room. Where memory is refused, also
-    /// to the clone of an element, nothing is made. An empty set without room needs none. Required is that a clone of an
-    /// element is equal to it.
+    /// A set of clones of the elements, each in its original's slot, with as much room. If memory is refused, also to the
+    /// clone of an element, nothing is made. An empty set without room needs no memory. The clone of an element must be
+    /// equal to the element.
     pub fn clone(&self) -> Result<Self, AllocError>
-        // A clone of an element is equal to it.
+        // The clone of an element is equal to the element.
         requires { IsEqualClone T.eq T.is_clone }
         ensures elements { IfOk result (λ set. AllZip T.is_clone (elements_of self.now) (elements_of set)) }
         ensures same { IsLawfulClone T.is_clone → IfOk result (λ set. pairs_of set ≡ pairs_of self.now) }

@@ -1,15 +1,15 @@
--- Of a run of pairs whose first parts are frozen the first or the last comes off, beside the run of the others (`end_out`).
--- Assumes `Logic`.
-use Rattle.starlark_columns.proofs.Walking.{◌≡◌, refl, sym, ap, subst, ℕ, suc, ◌+◌, ◌*◌, ◌≤◌, suc-mul, arith, List, [], ◌∷◌, ◌++◌, length, length-append, Ura, ent, sep, emp, Lft, GName, Share, flft, fobs, fbor, coded_list, Item, ‵, raw, ◌⊛◌, some, later, mean, ◌$◌, ◌∵◌, !, qed, move, keep, drop, use1, use2, split, split3, pick, fsplit, fjoin, feq_i, feq_l, rewrite, group, await, updating, now, show, done, Logic, sem, cells, Body, open_ref, after₂, takes_two, mem, RattleType, nothing, at, at_mul, cut_app, join_app, add_times, inl, inr, ◌⊎◌, ◌-◌}
+-- Pairs whose first parts do not change, from which the first or the last is taken, and the loan of the others is left
+-- (`end_out`). Assumes `Logic`.
+use Rattle.starlark_columns.proofs.LogicNames.{◌≡◌, refl, sym, ap, subst, ℕ, suc, ◌+◌, ◌*◌, ◌≤◌, suc-mul, arith, List, [], ◌∷◌, ◌++◌, length, length-append, Ura, ent, sep, emp, Lft, GName, Share, flft, fobs, fbor, coded_list, Item, ‵, raw, ◌⊛◌, some, later, mean, ◌$◌, ◌∵◌, !, qed, move, keep, drop, use1, use2, split, split3, pick, fsplit, fjoin, feq_i, feq_l, rewrite, group, await, updating, now, show, done, Logic, sem, cells, Body, open_ref, after₂, takes_two, mem, RattleType, nothing, at, at_mul, cut_app, join_app, add_times, inl, inr, ◌⊎◌, ◌-◌}
 use Rattle.starlark_hash.proofs.Common.{Option, take, drop as behind, cases_lt, drop_all, length-take}
 use Rattle.std.proofs.lemmas.List.{nil_from_length}
 use Rattle.starlark_columns.specs.Cells.{items_of}
 use Rattle.starlark_columns.specs.Front.{IsFront, with_items}
-use Rattle.starlark_columns.proofs.Fronts.{all_written, split as cut_at}
+use Rattle.starlark_columns.proofs.ItemsAtFront.{all_written, split as cut_at}
 use Rattle.starlark_vec2.specs.Loan.{with_seconds, Pair, Kept, KeptRun, lent_one, lent_run, IsEnd, TakesEnd}
 
 module _ {T : Type 0} (from : ℕ) (rest : List T) (i : ℕ) where
-  -- the item at an end, and the others, of which the first is the next-th of all
+  -- the item at an end, and the others, which begin at the index `next` of all
   pub record End : Type 0 where
     pub item : T
     pub others : List T
@@ -46,13 +46,13 @@ module _ {K V : Type 0} where
   with_last (q ∷ ps) (v ∷ ws) p w e = cc (with_last ps ws p w (omega arith))
   with_last ps ws p w e = absurd (omega arith)
 
-  -- what stays of the first parts stays again
+  -- keeping the first parts twice is keeping them once
   pub kept_again : (ps ws : List (K × V)) → with_seconds ps (with_seconds ps ws) ≡ with_seconds ps ws
   kept_again [] ws = refl
   kept_again (p ∷ ps) [] = cc (kept_again ps [])
   kept_again (p ∷ ps) (w ∷ ws) = cc (kept_again ps ws)
 
-  -- after the second parts of a column's pairs were written, twice as once
+  -- writing the second parts of a column's pairs twice is writing them once
   pub kept_items : (v : List (Option (K × V))) (n : ℕ) → IsFront v n → (ws : List (K × V)) → with_items v (with_seconds (items_of v) (items_of (with_items v (with_seconds (items_of v) ws)))) ≡ with_items v (with_seconds (items_of v) ws)
   kept_items v n front ws = rw (all_written v n front (with_seconds (items_of v) ws) (length-with_seconds (items_of v) ws), kept_again (items_of v) ws)
 
@@ -69,11 +69,12 @@ module _ (K V : RattleType) {M : Type 1} {𝓤 : Ura M} (𝓛 : Logic 𝓤) (κ 
   s = (mem P).size
 
   module _ (b o : ℕ) (γ : GName) (p : One) (ps : List One) where
-    -- the pair at i, and the others from j on
+    -- what is left of the loan: the right to write the pair at i, the loan of the others from j on, and the lifetime's
+    -- token
     abbrev pub Off : ℕ → ℕ → GName × GName → Item 𝓤
     Off i j γs = ‵ (lent_one K V κ b i γs.0 p) ⊛ ‵ (lent_run K V κ b j γs.1 ps) ⊛ ‵ (flft κ q)
 
-    -- wherever the pair stands among all
+    -- takes the pair p from any place in the list `all`
     module _ (all : List One) (i j : ℕ) (put : One → List One → List One) (apart : ent 𝓤 (sem 𝓛 (cells (mem P) all b o)) (sep 𝓤 (sem 𝓛 ((mem P).own_at p b i)) (sem 𝓛 (cells (mem P) ps b j))))
         (long : (w : One) (ws : List One) → length ws ≡ length ps → length (put w ws) ≡ length all)
         (joint : (w : One) (ws : List One) → length ws ≡ length ps → ent 𝓤 (sep 𝓤 (sem 𝓛 ((mem P).own_at (p.0, w.1) b i)) (sem 𝓛 (cells (mem P) (with_seconds ps ws) b j))) (sem 𝓛 (cells (mem P) (with_seconds all (put w ws)) b o))) where
@@ -103,7 +104,7 @@ module _ (K V : RattleType) {M : Type 1} {𝓤 : Ura M} (𝓛 : Logic 𝓤) (κ 
         nothing ! $ move ! (1 ∷ 0 ∷ []) $ fjoin ! $ move ! (1 ∷ 0 ∷ []) $ use2 𝓛 (‵ (cells (mem P) (with_seconds ps ws ++ (p.0, w.1) ∷ []) b o)) (join_app 𝓛 (mem P) (with_seconds ps ws) ((p.0, w.1) ∷ []) b o) $
         rewrite ! 0 (λ (t : List One). ‵ (cells (mem P) t b o)) (sym (with_last ps ws p w l)) refl $ done !)
 
-  -- ---- the pair at either end comes off
+  -- ---- taking the pair at either end
   module _ (b o : ℕ) (γ : GName) (from : ℕ) (rest : List One) (i : ℕ) where
     abbrev Out : (p : One) (ps : List One) → List One → ℕ → ℕ → Type 1
     Out p ps t k l = ent 𝓤 (sep 𝓤 (sem 𝓛 (lent_run K V κ b (from * s + o) γ t)) (A.lft κ q)) (H.⇛ (mean 𝓛 (some (Off b o γ p ps k l))))

@@ -1,11 +1,11 @@
--- An `Option` that a call gave, opened. Assumes `Logic`.
-use Rattle.starlark_columns.proofs.Walking.{◌≡◌, refl, ap, ◌∙◌, ◌⊎◌, inl, inr, [], ◌∷◌, Ura, named, Val, of_list, vptr, vstruct, vcons, vnil, ent, Lft, Logic, sem, ‵, ◌$◌, ◌∵◌, !, qed, by, keep, fsplit, fpick, feq_l, live, fact, fact_i, RattleType, MutBor, MutRef, only, Tuple}
+-- The two cases of an `Option` that a call returned, and the type of a pair of `&mut`s. Assumes `Logic`.
+use Rattle.starlark_columns.proofs.LogicNames.{◌≡◌, refl, ap, ◌∙◌, ◌⊎◌, inl, inr, [], ◌∷◌, Ura, named, Val, of_list, vptr, vstruct, vcons, vnil, ent, Lft, Logic, sem, ‵, ◌$◌, ◌∵◌, !, qed, by, keep, fsplit, fpick, feq_l, live, fact, fact_i, RattleType, MutBor, MutRef, only, Tuple}
 use Rattle.core.specs.declared.option.Option.{Option}
 use Rattle.core.specs.declared.option.Option.TheVariants.{None, Some}
 use Rattle.core.specs.contracts.option.Option as OP
 pub use Rattle.starlark_columns.proofs.LentParts.{given_up, as_tuple}
 
--- an `Option` is one of the two
+-- an `Option` is `Some` of an item or `None`
 pub either : {A : Type 0} (o : Option A) → ((x : A) × (o ≡ Some x)) ⊎ (o ≡ None)
 either (Some x) = inl (x, refl)
 either None = inr refl

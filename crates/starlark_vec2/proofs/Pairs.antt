@@ -1,4 +1,4 @@
--- A list of pairs and its two columns, which are as long.
+-- A list of pairs and its two columns, which have the same length.
 use Rattle.starlark_hash.proofs.Common.{◌≡◌, ℕ, zero, suc, List, [], ◌∷◌, ◌++◌, length, length-map, take, zip, slice_get, reverse, remove, Bool, ◌&&◌, refl, ap, arith, length_push, nat_tests, common_steps, AllZip, pointwise}
 use Rattle.std.proofs.Common.{set}
 use Rattle.std.proofs.lemmas.Slice.Zip.{length-zip, firsts-zip, seconds-zip}
@@ -19,7 +19,7 @@ module _ {A B : Type 0} where
   zip_push (a ∷ xs) (b ∷ ys) x y e = cc (zip_push xs ys x y (omega arith))
   zip_push xs ys x y e = absurd (omega arith)
 
-  -- two columns, each of which has lost its last part, and the list of pairs of both
+  -- the list of pairs after each of both columns has lost its last part
   pub pair_back : (xs us : List A) (ys vs : List B) (x : A) (y : B) → xs ≡ us ++ x ∷ [] → ys ≡ vs ++ y ∷ [] → length ys ≡ length xs → zip xs ys ≡ zip us vs ++ (x, y) ∷ []
   pair_back xs us ys vs x y p q e = cc (zip_push us vs x y (omega (arith, ap length p, ap length q, length_push us x, length_push vs y)))
 
@@ -48,7 +48,7 @@ module _ {A B : Type 0} where
   AllZip-zip C D (x ∷ xs) (u ∷ us) (y ∷ ys) (v ∷ vs) p q = ((p.0, q.0), AllZip-zip C D xs us ys vs p.1 q.1)
   AllZip-zip C D xs us ys vs p q = grind arith
 
-  -- a column in which one part was written
+  -- the list of pairs after one part of a column was written
   pub zip-set_first : (xs : List A) (ys : List B) (i : ℕ) (x : A) → zip (set xs i x) ys ≡ set_first_at (zip xs ys) i x
   zip-set_first (z ∷ xs) (y ∷ ys) (suc i) x = cc (zip-set_first xs ys i x)
   zip-set_first xs ys i x = grind arith
@@ -58,21 +58,21 @@ module _ {A B : Type 0} where
   zip-set xs ys i x y = grind arith
 
 module _ {K V B : Type 0} where
-  -- pairs of which the values were written: the keys, and what stands beside each pair, are their own
+  -- pairs whose values were written keep their keys and their second parts
   pub with_values-zip : (ps ws : List (K × V)) (bs : List B) → with_values (zip ps bs) (zip (with_seconds ps ws) bs) ≡ zip (with_seconds ps ws) bs
   with_values-zip (p ∷ ps) [] (b ∷ bs) = cc (with_values-zip ps [] bs)
   with_values-zip (p ∷ ps) (w ∷ ws) (b ∷ bs) = cc (with_values-zip ps ws bs)
   with_values-zip ps ws bs = refl
 
 module _ {A B : Type 0} (eq : A → A → Bool) (eq2 : B → B → Bool) where
-  -- equality pair by pair is equality of both columns
+  -- pairs are equal one by one if both columns are
   pub pointwise_pairs : (ps qs : List (A × B)) → pointwise (λ p q. eq p.0 q.0 && eq2 p.1 q.1) ps qs ≡ (pointwise eq (firsts_of ps) (firsts_of qs) && pointwise eq2 (seconds_of ps) (seconds_of qs))
   pointwise_pairs [] [] = refl
   pointwise_pairs (p ∷ ps) (q ∷ qs) = grind (arith, nat_tests, pointwise_pairs ps qs)
   pointwise_pairs ps qs = refl
 
--- what a call on the columns may want
+-- lemmas for a call on the columns
 pub ruleset columns = (length-zip, firsts-zip, seconds-zip, zip_push, zip-take, zip-remove, zip-reverse)
 
--- what a walk of the values may want
+-- lemmas for an iterator over the values
 pub ruleset values = (map_push, length-map)

@@ -1,4 +1,4 @@
--- A list of pairs on two columns, before a call on a column and after it.
+-- A list of pairs in two columns, before and after a call on a column.
 use Rattle.starlark_hash.proofs.Common.{◌≡◌, ℕ, ◌<◌, List, length, zip, slice_get, slice_set, Option, Some, refl, sym, ap, ◌∙◌, arith}
 use lib.ListN.{length-set}
 use Rattle.starlark_columns.specs.Block.{IsBlockOf, IsSpotOf}
@@ -6,7 +6,7 @@ use Rattle.starlark_columns.specs.Lend.{with_cells}
 use Rattle.starlark_vec2.specs.declared.vec2.Vec2.TheInside.{Inside}
 use Rattle.starlark_columns.specs.Cells.{items_of}
 use Rattle.starlark_columns.specs.Front.{with_items}
-use Rattle.starlark_columns.proofs.Fronts.{written_front, written_items, written_cells, set_front, all_written}
+use Rattle.starlark_columns.proofs.ItemsAtFront.{written_front, written_items, written_cells, set_front, all_written}
 use Rattle.starlark_vec2.specs.Columns.{AreColumns}
 use Rattle.starlark_vec2.specs.PairList.{PairList, pair_list, with_pairs, firsts_of}
 use Rattle.starlark_vec2.specs.Lend.{with_pair, set_firsts, set_first_at}
@@ -14,16 +14,17 @@ use Rattle.std.proofs.lemmas.Slice.Zip.{length-zip, firsts-zip, seconds-zip}
 use Rattle.starlark_vec2.proofs.Pairs.{slice_get-zip, zip-set_first, zip-set}
 
 module _ {A B : Type 0} where
-  -- what is known of the fields of a list
+  -- the invariant of the fields
   abbrev Holds : Inside A B → Type 0
   Holds d = AreColumns d.firsts.cells d.seconds.cells d.len × IsBlockOf d.block d.seconds d.firsts × IsSpotOf d.spot d.block
 
-  -- with as many cells in either column, and its items in front
+  -- the invariant after both columns were written, if they have the same number of cells and their items are at the
+  -- front
   pub relaid : (d : Inside A B) → Holds d → (cs : List (Option A)) (ds : List (Option B)) → AreColumns cs ds d.len → length cs ≡ length d.firsts.cells → length ds ≡ length d.seconds.cells
       → Holds (record d { firsts = with_cells d.firsts cs; seconds = with_cells d.seconds ds })
   relaid d k cs ds at long long' = (at, (k.1.0, k.1.1, k.1.2 ∙ sym long', k.1.3 ∙ sym long), k.2)
 
-  -- the list that is seen where the columns are these
+  -- the list of pairs of these columns
   abbrev pub seen : List (Option A) → List (Option B) → PairList A B
   seen cs ds = pair_list (zip (items_of cs) (items_of ds)) (length cs)
 
@@ -31,7 +32,7 @@ module _ {A B : Type 0} where
     pub even_items : length (items_of cs) ≡ length (items_of ds)
     even_items = at.firsts_front.count ∙ sym at.seconds_front.count
 
-    -- after a `&mut` to all items of a column has ended
+    -- both columns after a `&mut` to all items of one has ended
     pub firsts_written : (ws : List A) → AreColumns (with_items cs ws) ds n
     firsts_written ws = record { firsts_front = written_front cs n at.firsts_front ws; seconds_front = at.seconds_front; even = at.even ∙ sym (written_cells cs n at.firsts_front ws) }
 
@@ -47,7 +48,7 @@ module _ {A B : Type 0} where
       pub firsts_are : (xs : List A) → xs ≡ items_of cs → xs ≡ firsts_of v.pairs
       firsts_are xs e = cc (firsts-zip (items_of cs) (items_of ds) (sym even_items))
 
-      -- what is said of the items of both columns, before and after as many were written, is said of the pairs
+      -- a relation between the items of both columns before and after they were written holds of the pairs
       pub both_moved : (xs us : List A) (ys ws : List B) → xs ≡ items_of cs → ys ≡ items_of ds → length us ≡ length xs → length ws ≡ length ys
           → (P : List (A × B) → List (A × B) → Type 0) → P (zip xs ys) (zip us ws) → P v.pairs (zip (items_of (with_items cs us)) (items_of (with_items ds ws)))
       both_moved xs us ys ws e f p q P h = rw (all_written cs n at.firsts_front us (p ∙ ap length e), all_written ds n at.seconds_front ws (q ∙ ap length f), ← is, ← e, ← f) h
@@ -62,7 +63,7 @@ module _ {A B : Type 0} where
         pub in_columns : i < n
         in_columns = omega (arith, lt, len_is)
 
-        -- after a `&mut` to one item has ended
+        -- both columns after a `&mut` to one item has ended
         pub first_set : (x : A) → AreColumns (slice_set cs i (Some x)) ds n
         first_set x = record { firsts_front = (set_front cs n at.firsts_front i in_columns x).0; seconds_front = at.seconds_front; even = at.even ∙ sym (length-set cs i (Some x)) }
 
@@ -79,6 +80,6 @@ module _ {A B : Type 0} where
         pub first_is : (x : A) → slice_get (items_of cs) i ≡ Some x → slice_get (firsts_of v.pairs) i ≡ Some x
         first_is x e = ap (λ l. slice_get l i) (sym (firsts_are (items_of cs) refl)) ∙ e
 
-  -- after `&mut`s to all items of both columns have ended
+  -- the invariant after `&mut`s to all items of both columns have ended
   pub both_relaid : (d : Inside A B) → Holds d → (ws : List A) (us : List B) → Holds (record d { firsts = with_cells d.firsts (with_items d.firsts.cells ws); seconds = with_cells d.seconds (with_items d.seconds.cells us) })
   both_relaid d k ws us = relaid d k _ _ (both_written _ _ _ k.0 ws us) (written_cells _ _ k.0.firsts_front ws) (written_cells _ _ k.0.seconds_front us)

@@ -1,4 +1,4 @@
--- What a `Vec2` ends as, once a reference into it has ended.
+-- The value of a `Vec2` once a reference into it has ended.
 use Rattle.std.specs.Prelude.{ℕ, zero, suc, List, [], ◌∷◌, Option, zip, length, slice_set}
 use Rattle.std.specs.List.{refill}
 use Rattle.std.specs.Borrow.{Fml, RattleType, MutBor, GName, Array, Lends, LendsBoth, LendsBothIf, follows}
@@ -21,31 +21,33 @@ module _ {A B : Type 0} where
   set_first_at (p ∷ ps) zero a = (a, p.1) ∷ ps
   set_first_at (p ∷ ps) (suc i) a = p ∷ set_first_at ps i a
 
-  -- the pairs with these first parts; where they are fewer, the others stay
+  -- the pairs with these first parts; if they are fewer, the other pairs stay
   abbrev pub set_firsts : List (A × B) → List A → List (A × B)
   set_firsts ps xs = zip (refill (length ps) (firsts_of ps) xs) (seconds_of ps)
 
 module _ {K V B : Type 0} where
-  -- the pairs, each with the value that ws has in its place; key and second part are its own
+  -- the pairs, each with the value that ws has at the same index, and with its own key and second part
   abbrev pub with_values : List ((K × V) × B) → List ((K × V) × B) → List ((K × V) × B)
   with_values [] ws = []
   with_values (p ∷ ps) [] = p ∷ with_values ps []
   with_values (p ∷ ps) (w ∷ ws) = ((p.0.0, w.0.1), p.1) ∷ with_values ps ws
 
 module _ (A B : RattleType) (s : MutBor (PairList A.Denot B.Denot)) where
-  -- the list ends with what is left behind a reference to the first part at the index, and all else stays
+  -- once the `&mut` has ended, the list has at the index the first part that was written through it, and all else stays
   abbrev pub lends_first : ℕ → MutBor A.Denot → Fml
   lends_first i r = Lends (the_row A B) A s r (λ a. with_pairs s.now (set_first_at s.now.pairs i a))
 
-  -- the list ends with what is left behind a reference to all first parts, and all else stays
+  -- once the `&mut` has ended, the list has the first parts that were written through it, and all else stays
   abbrev pub lends_firsts : MutBor (List A.Denot) → Fml
   lends_firsts r = Lends (the_row A B) (Array A 0) s r (λ xs. with_pairs s.now (set_firsts s.now.pairs xs))
 
-  -- the list ends with what is left behind references to both parts of the pair at the index, and all else stays
+  -- once both `&mut`s have ended, the list has at the index the parts that were written through them, and all else
+  -- stays
   abbrev pub lends_both : ℕ → MutBor A.Denot × MutBor B.Denot → Fml
   lends_both i r = LendsBoth (the_row A B) A B s r (λ a b. with_pair s.now i (a, b))
 
-  -- the same where a pair is lent, and without one all stays
+  -- once both `&mut`s have ended, if there are any, the list has at the index the parts that were written through them;
+  -- without them it stays
   abbrev pub lends_both_if : ℕ → Option (MutBor A.Denot × MutBor B.Denot) → Fml
   lends_both_if i r = LendsBothIf (the_row A B) A B s r (λ a b. with_pair s.now i (a, b)) s.now
 

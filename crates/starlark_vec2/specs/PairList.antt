@@ -1,5 +1,5 @@
--- A list of pairs with a capacity, and what each call makes of it. An iterator over it is seen as the list of what it has left;
--- its `next` and `next_back` are the words `TakesFirst` and `TakesLast` of std.
+-- A list of pairs with a capacity. The model of an iterator over it is the list of what is left; `next` and `next_back`
+-- are `TakesFirst` and `TakesLast` of std.
 use Rattle.std.specs.Prelude.{◌≡◌, ◌⊎◌, ℕ, List, map, length}
 
 -- the pairs, and how many of them there may be before the list grows
@@ -20,14 +20,14 @@ module _ {A B : Type 0} where
   abbrev pub seconds_of : List (A × B) → List B
   seconds_of ps = map (λ p. p.1) ps
 
-  -- the same capacity, with these pairs
+  -- the list with these pairs and its own capacity
   abbrev pub with_pairs : PairList A B → List (A × B) → PairList A B
   with_pairs v ps = pair_list ps v.capacity
 
-  -- each index is taken: the length is the capacity
+  -- the length is the capacity
   abbrev pub IsFull : PairList A B → Type 0
   IsFull v = length v.pairs ≡ v.capacity
 
-  -- the list is as it was, or full: nothing was done, or all that there was room for
+  -- the list is unchanged, or as full as its capacity allows
   abbrev pub StaysOrIsFull : PairList A B → PairList A B → Type 0
   StaysOrIsFull old new = (new ≡ old) ⊎ IsFull new

@@ -1,4 +1,4 @@
-//! A list of pairs in two columns: the first parts lie side by side, and so do the second parts.
+//! A list of pairs in two columns: all first parts are stored side by side, and so are all second parts.
 #![tactic(auto)]
 
 mod loan;

@@ -1,4 +1,4 @@
-//! The right to write the values of pairs that lie side by side, while their keys are frozen.
+//! The right to write the values of pairs that are stored side by side, while their keys do not change.
 ghost use Rattle.std.specs.Prelude.{◌≡◌, ℕ, List, [], ◌∷◌};
 ghost use denote.Struct.Tuple.{Tuple};
 ghost use Rattle.starlark_columns.specs.Block.{IsBehind};
@@ -13,8 +13,9 @@ use starlark_columns::pair::second_at;
 use starlark_columns::{Address, Row, Spot};
 use std::marker::{Model, PhantomData};
 
-// The right to the pairs at `start` that are still to be taken: those from the `from`-th on, `rest`. Their keys are
-// frozen. `name` is the loan of these, and `tie` the loan of all, which its lender follows. `PairsMut` walks it.
+// The right to write the values of the pairs that are still to be taken: `rest`, which begin at the index `from` of the
+// pairs at `start`. Their keys do not change. `name` is the name of the loan of these pairs. `tie` is the name of the
+// loan of all pairs, which determines what the lender ends as. `PairsMut` iterates over it.
 #[derive(Drop)]
 pub struct Loan<'a, K, V> {
     start: *mut (K, V),
@@ -29,7 +30,7 @@ impl<'a, K, V> Model for Loan<'a, K, V> {
     ghost also_owns = { λ l. frozen 'a K.row V.row l.start l.from l.name l.rest };
 }
 
-// The pairs of a column, `len` of them.
+// The `len` pairs of a column, mutably.
 #[inline]
 fn run_mut<K, V>(pairs: &mut Row<(K, V)>, address: Address<(K, V)>, len: usize) -> &mut [(K, V)]
     requires at { address.at ≡ pairs.old.at }
@@ -41,7 +42,7 @@ fn run_mut<K, V>(pairs: &mut Row<(K, V)>, address: Address<(K, V)>, len: usize) 
 }
 
 impl<'a, K, V> Loan<'a, K, V> {
-    // All pairs of a column, `len` of them.
+    // Lends all pairs of a column, of which there are `len`.
     #[inline]
     pub(crate) fn new(
         pairs: &'a mut Row<(K, V)>,
@@ -60,7 +61,7 @@ impl<'a, K, V> Loan<'a, K, V> {
         }
     }
 
-    // Lends the column behind another, by the spot of their block.
+    // Lends the second column of a block, whose address is computed from the spot of the block.
     #[inline]
     pub(crate) fn behind<B>(pairs: &'a mut Row<(K, V)>, spot: Spot<B>, len: usize) -> Loan<'a, K, V>
         requires at { IsBehind B.row (Tuple (K.row ∷ V.row ∷ [])) spot pairs.old.at }
@@ -71,7 +72,7 @@ impl<'a, K, V> Loan<'a, K, V> {
         Loan::new(pairs, second_at(spot), len)
     }
 
-    // Takes the pair at either end of those that are left; it is the `index`-th of all.
+    // Takes the first or the last of the pairs that are left, which is at `index` among all pairs.
     #[inline]
     pub(crate) fn take_end(&mut self, index: usize) -> (&'a K, &'a mut V)
         requires { IsEnd self.old.from self.old.rest index }

@@ -1,4 +1,4 @@
-//! The iterator over a loan of pairs, which lends the values.
+//! The iterator over a loan of pairs, which lends the values mutably.
 ghost use Rattle.std.specs.Prelude.{◌≡◌, length, IfSome, Some};
 ghost use Rattle.std.specs.Iterator.{UpTo, at_most};
 ghost use Rattle.std.specs.Iterator.SizeHint.{IsWithinCount};
@@ -8,8 +8,8 @@ use crate::loan::Loan;
 use std::iter::FusedIterator;
 use std::marker::Model;
 
-/// Pairs, each as `(&K, &mut V)`. It is seen as the pairs that it has left, and the name of its loan: what a list of
-/// pairs ends as, once it was lent, is said of that name.
+/// Pairs, each as `(&K, &mut V)`. The model is the list of the pairs that are left, and the name of the loan: a
+/// contract says by this name what the lent list ends as.
 #[derive(Drop)]
 pub struct PairsMut<'a, K, V> {
     loan: Loan<'a, K, V>,
@@ -29,7 +29,7 @@ impl<'a, K, V> Model for PairsMut<'a, K, V> {
 }
 
 impl<'a, K, V> PairsMut<'a, K, V> {
-    // The pairs of a loan of which none is taken yet, `len` of them.
+    // An iterator over all pairs of a loan of `len` pairs, of which none is taken yet.
     #[inline]
     pub(crate) fn of(loan: Loan<'a, K, V>, len: usize) -> PairsMut<'a, K, V>
         requires untouched { loan.from ≡ 0 }

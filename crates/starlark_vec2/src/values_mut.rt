@@ -1,4 +1,4 @@
-//! The iterator over a loan of pairs that gives the values alone.
+//! The iterator over a loan of pairs that lends only the values.
 ghost use Rattle.std.specs.Prelude.{◌≡◌, length, IfSome, Some};
 ghost use Rattle.std.specs.Iterator.{UpTo, at_most};
 ghost use Rattle.std.specs.Iterator.SizeHint.{IsWithinCount};
@@ -10,7 +10,7 @@ use crate::pairs_mut::PairsMut;
 use std::iter::FusedIterator;
 use std::marker::Model;
 
-/// The values of pairs, each as `&mut V`. It is seen as a `PairsMut` is.
+/// The values of pairs, each as `&mut V`. The model is that of a `PairsMut`.
 #[derive(Drop)]
 pub struct ValuesMut<'a, K, V> {
     pairs: PairsMut<'a, K, V>,

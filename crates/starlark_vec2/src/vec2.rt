@@ -1,4 +1,4 @@
-//! `Vec2`, a list of pairs in two columns, with a capacity of its own. Its children alone see its fields.
+//! `Vec2`, a list of pairs in two columns, with a capacity of its own. Only its child modules see its fields.
 ghost use Rattle.std.specs.Prelude.{◌≡◌, ◌+◌, ◌*◌, ◌-◌, ◌^◌, ◌<◌, ◌≤◌, ◌==◌, [], ◌∷◌, ◌++◌, length, take, remove, reverse, slice_get, is_ok, if◌then◌else◌, IfOk, IfErr, IsOk};
 ghost use Rattle.std.specs.Option.{option_map};
 ghost use Rattle.std.specs.Map.Iter.{TakesLast, deref_pair};
@@ -28,18 +28,19 @@ use std::alloc::{AllocError, Global};
 use std::marker::Model;
 use std::mem;
 
-/// A list of pairs. The first parts are stored side by side, and so are the second parts. It is seen as its pairs and
-/// its capacity: no clause names a column or a block, so another body may keep the clauses.
+/// A list of pairs. The first parts are stored side by side, and so are the second parts. The model is the list of the
+/// pairs and the capacity. No public clause names a column or a block, so the representation can change without the
+/// contracts.
 pub struct Vec2<A, B> {
-    // Both columns lie in one block, the second in front: whoever looks for a second part needs no more than the spot.
+    // Both columns are in one block, the second parts in front: a look-up of a second part needs only the spot.
     firsts: Row<A>,
     seconds: Row<B>,
-    // How many of the indices at the front of either column are filled.
+    // How many cells at the front of each column are filled.
     len: usize,
-    // Where the block begins, and how many indices either column has.
+    // The address of the block, and how many cells each column has.
     spot: Spot<B>,
     alloc: Global,
-    // The right to give the block back.
+    // The right to deallocate the block.
     block: Block<B, A>,
 }
 
@@ -57,7 +58,7 @@ impl<A, B> Model for Vec2<A, B> {
     ghost invariant = { λ v. AreColumns v.firsts.cells v.seconds.cells v.len × IsBlockOf v.block v.seconds v.firsts × IsSpotOf v.spot v.block };
 }
 
-// Making
+// Construction
 
 impl<A, B> Vec2<A, B> {
     /// A list without pairs. It takes no memory.
@@ -77,8 +78,8 @@ impl<A, B> Vec2<A, B> {
         }
     }
 
-    /// A list without pairs, with room for `capacity` of them. Capacity 0 takes no memory, nor do pairs without bytes;
-    /// where another finds none, nothing is made.
+    /// A list without pairs, with room for `capacity` of them. Capacity 0 needs no memory, nor do pairs without bytes.
+    /// It is refused if memory is needed and there is none.
     #[tactic(auto, using(crate::proofs::Pairs::columns))]
     #[inline]
     pub fn with_capacity(alloc: Global, capacity: usize) -> Result<Vec2<A, B>, AllocError>
@@ -101,7 +102,7 @@ impl<A, B> Vec2<A, B> {
 // Reading
 
 impl<A, B> Vec2<A, B> {
-    /// How many pairs there are.
+    /// The number of pairs.
     #[tactic(auto, using(crate::proofs::Pairs::columns))]
     #[inline]
     pub fn len(&self) -> usize
@@ -149,7 +150,7 @@ impl<A, B> Vec2<A, B> {
         self.seconds.items(self.spot.address, self.len)
     }
 
-    /// The pair at this index, where there is one.
+    /// The pair at this index, if there is one.
     #[tactic(auto, using(crate::proofs::Pairs::columns))]
     #[inline]
     pub fn get(&self, index: usize) -> Option<(&A, &B)>
@@ -162,7 +163,7 @@ impl<A, B> Vec2<A, B> {
         }
     }
 
-    /// The pair at this index. Rust's is unsafe; here the index is proved to be within the length.
+    /// The pair at this index. It is unsafe in Rust; here the index is proved to be within the length.
     #[tactic(auto, using(crate::proofs::Pairs::columns, crate::proofs::TwoColumns::pair_is))]
     #[inline]
     pub fn get_unchecked(&self, index: usize) -> (&A, &B)
@@ -177,7 +178,7 @@ impl<A, B> Vec2<A, B> {
         )
     }
 
-    /// The first pair, where there is one.
+    /// The first pair, if there is one.
     #[tactic(auto, using(crate::proofs::Pairs::columns))]
     #[inline]
     pub fn first(&self) -> Option<(&A, &B)>
@@ -186,7 +187,7 @@ impl<A, B> Vec2<A, B> {
         self.get(0)
     }
 
-    /// The last pair, where there is one.
+    /// The last pair, if there is one.
     #[tactic(auto, using(crate::proofs::Pairs::columns))]
     #[inline]
     pub fn last(&self) -> Option<(&A, &B)>
@@ -211,10 +212,10 @@ impl<A, B> Vec2<A, B> {
 // Growing
 
 impl<A, B> Vec2<A, B> {
-    /// Makes room for so many further pairs. It grows only where their room is missing, to the largest of what is
-    /// needed, 4 and twice the capacity (cut at the greatest `usize`); Rust's grows by a rule of its own. Where memory
-    /// is refused, and where a block would be too large, the list is as it was. Where the room is there, it is not
-    /// refused and nothing changes; pairs without bytes are refused only where 64 bits do not count them.
+    /// Makes room for `additional` further pairs. The list grows only if there is less room: to the largest of the
+    /// needed capacity, 4, and twice the old capacity (capped at the greatest `usize`). Rust's grows by a rule of its
+    /// own. If memory is refused, or a block would be too large, the list is unchanged. With enough room it is never
+    /// refused, and nothing changes. Pairs without bytes are refused only if 64 bits do not count them.
     #[tactic(auto, using(crate::proofs::Pairs::columns))]
     #[inline]
     pub fn reserve(&mut self, additional: usize) -> Result<(), AllocError>
@@ -228,7 +229,7 @@ impl<A, B> Vec2<A, B> {
         self.grow(additional)
     }
 
-    // The part of `reserve` that asks for memory, apart so that the test is inlined.
+    // Grows the list. It is a function of its own, so that the test in `reserve` is inlined.
     #[tactic(auto, using(crate::proofs::Pairs::columns))]
     #[cold]
     #[inline(never)]
@@ -243,7 +244,7 @@ impl<A, B> Vec2<A, B> {
         self.refit(capacity)
     }
 
-    // Moves the pairs to columns of so many indices in a new block, and gives the old one back.
+    // Moves the pairs to columns of `capacity` cells in a new block, and deallocates the old one.
     #[tactic(auto, using(crate::proofs::Pairs::columns))]
     fn refit(&mut self, capacity: usize) -> Result<(), AllocError>
         requires { length self.old.pairs ≤ capacity }
@@ -264,9 +265,9 @@ impl<A, B> Vec2<A, B> {
         Ok(())
     }
 
-    /// Puts a pair at the end. Both columns have room before either part is stored. Where there is no memory the list
-    /// is as it was, and the pair comes back; that can't be while the length is below the capacity, nor, while 64 bits
-    /// count them, of pairs without bytes.
+    /// Appends a pair. Both columns have room before either part is stored. If there is no memory, the list is
+    /// unchanged and the pair is handed back; that cannot happen while the length is below the capacity, nor, while 64
+    /// bits count them, to pairs without bytes.
     #[tactic(auto, using(crate::proofs::Pairs::columns))]
     #[inline]
     pub fn push(&mut self, a: A, b: B) -> Result<(), NoRoom<(A, B)>>
@@ -282,7 +283,7 @@ impl<A, B> Vec2<A, B> {
         Ok(())
     }
 
-    /// Puts a pair at the end, where its room is there: as after `reserve`. The capacity stays.
+    /// Appends a pair for which there is room, as there is after `reserve`. The capacity stays.
     #[tactic(auto, using(crate::proofs::Pairs::columns))]
     #[inline]
     pub fn push_reserved(&mut self, a: A, b: B)
@@ -297,10 +298,10 @@ impl<A, B> Vec2<A, B> {
     }
 }
 
-// Shrinking and turning
+// Removal, shrinking and order
 
 impl<A, B> Vec2<A, B> {
-    /// Takes the pair at this index out. Those after it move up. The capacity stays.
+    /// Removes and returns the pair at this index. Each later pair moves one index down. The capacity stays.
     #[tactic(auto, using(crate::proofs::Pairs::columns))]
     #[inline]
     pub fn remove(&mut self, index: usize) -> (A, B)
@@ -316,7 +317,7 @@ impl<A, B> Vec2<A, B> {
         )
     }
 
-    /// Takes the last pair out, where there is one. The capacity stays.
+    /// Removes and returns the last pair, if there is one. The capacity stays.
     #[tactic(auto, using(crate::proofs::Pairs::columns))]
     #[inline]
     pub fn pop(&mut self) -> Option<(A, B)>
@@ -334,9 +335,9 @@ impl<A, B> Vec2<A, B> {
         ))
     }
 
-    /// Makes the capacity equal to the length. The new block is there before a pair moves; where there is no memory
-    /// for it, the list is as it was. Without pairs, at a capacity that fits already, or of pairs without bytes, no
-    /// memory is needed.
+    /// Makes the capacity equal to the length. If memory is refused, the list is unchanged, since the new block is
+    /// allocated before a pair moves. No memory is needed without pairs, if the capacity fits already, and for pairs
+    /// without bytes.
     #[tactic(auto, using(crate::proofs::Pairs::columns))]
     pub fn shrink_to_fit(&mut self) -> Result<(), AllocError>
         ensures list { self.new ≡ (if is_ok result then pair_list self.old.pairs (length self.old.pairs) else self.old) }
@@ -350,7 +351,7 @@ impl<A, B> Vec2<A, B> {
         self.refit(self.len)
     }
 
-    /// Turns the order of the pairs round. The capacity stays.
+    /// Reverses the order of the pairs. The capacity stays.
     #[tactic(auto, using(crate::proofs::Pairs::columns))]
     #[inline]
     pub fn reverse(&mut self)
@@ -372,7 +373,7 @@ impl<A: Drop, B: Drop> Vec2<A, B> {
         self.truncate(0);
     }
 
-    /// Drops the pairs from this index on. At or above the length nothing is dropped. The capacity stays.
+    /// Drops the pairs from the index `len` on. If `len` is not below the length, nothing changes. The capacity stays.
     #[tactic(auto, using(crate::proofs::Pairs::columns, std::proofs::lemmas::List::take_all))]
     #[inline]
     pub fn truncate(&mut self, len: usize)

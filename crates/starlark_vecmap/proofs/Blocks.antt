@@ -1,4 +1,4 @@
--- The first index at which a list has a hash, as the mask of its first block shows it.
+-- The first index at which a list has a hash, found by the mask of its first block.
 use Rattle.starlark_hash.proofs.Common.{◌≡◌, ◌≢◌, ℕ, zero, suc, ◌+◌, ◌/◌, ◌^◌, ◌<◌, ◌≤◌, not, List, [], ◌∷◌, ◌++◌, Some, None, length, drop, append-nil, arith, rules, ap, sym, ◌∙◌, nat_eq, nat_tests, drop-drop, length-drop, leading_from_mask_l, count_trailing_zeros, position_or_len, position, option_map}
 use Rattle.std.proofs.lemmas.List.Folds.{prefix_len-append}
 use Rattle.std.proofs.lemmas.Simd.{trailing_mask_l}
@@ -12,7 +12,7 @@ module _ (hash : ℕ) where
   some_passes [] some = absurd (omega arith)
   some_passes (x ∷ xs) some = let later = some_passes xs in grind arith
 
-  -- a search may begin anywhere before the first index
+  -- a search may begin at any index up to the first one
   pub first_from : (xs : List ℕ) (n : ℕ) → n ≤ first xs → n + first (drop n xs) ≡ first xs
   first_from xs zero before = omega arith
   first_from [] (suc n) before = absurd (omega (arith, before))
@@ -21,23 +21,24 @@ module _ (hash : ℕ) where
   pub position_at : (xs : List ℕ) (n : ℕ) → n ≡ first xs → n < length xs → Some n ≡ position (λ h. nat_eq h hash) xs
   position_at xs n is less = search rules
 
-  -- no bit is set behind a start before the first index
+  -- the list does not have the hash, if the search begins at most at its first index and the mask from there is 0
   pub nowhere_from : (xs : List ℕ) (start : ℕ) → start ≤ first xs → start ≤ length xs → mask hash (drop start xs) ≡ 0 → None ≡ position (λ h. nat_eq h hash) xs
   nowhere_from xs start before within none =
       let all : first xs ≡ length xs = omega (arith, first_from xs start before, length-drop start xs, leading_from_mask_l (λ h. nat_eq h hash) (drop start xs) none) in search rules
 
   module _ (block tail : List ℕ) (m : ℕ) (few : length block ≤ 64) (is : m ≡ mask hash block) where
-    -- no bit is set
+    -- if no bit is set, the first index is behind the block
     pub past_block : m ≡ 0 → first (block ++ tail) ≡ length block + first tail
     past_block none = grind (arith, nat_tests, prefix_len-append (λ h. not (nat_eq h hash)) block tail, leading_from_mask_l (λ h. nat_eq h hash) block (sym is ∙ none))
 
-    -- the lowest bit is that of the first index
+    -- if a bit is set, the first index is that of the lowest one
     pub lowest : m ≢ 0 → (count_trailing_zeros 64 m ≡ first (block ++ tail)) × (count_trailing_zeros 64 m < length block)
     lowest some =
         let low : count_trailing_zeros 64 m ≡ first block = rw is (trailing_mask_l (λ h. nat_eq h hash) 64 block few (omega (arith, is))) in let passes = some_passes block (omega (arith, is)) in
         (grind (arith, nat_tests, low, prefix_len-append (λ h. not (nat_eq h hash)) block tail, passes), omega (arith, low, passes))
 
-  -- the mask of what is left from i on shows the next index, and without its lowest bits it is that of what is left behind it
+  -- the mask of what is left from i on has the next index, and without its lowest bits it is the mask of what is left
+  -- behind that index
   module _ (xs : List ℕ) (i m : ℕ) (few : length xs ≤ 64) (within : i ≤ length xs) (is : m ≡ mask hash (drop i xs)) where
     pub next_nowhere : m ≡ 0 → option_map (λ s. i + s) (position (λ h. nat_eq h hash) (drop i xs)) ≡ None
     next_nowhere none = ap (option_map (λ s. i + s)) (sym (nowhere_from (drop i xs) 0 (omega arith) (omega arith) (sym is ∙ none)))

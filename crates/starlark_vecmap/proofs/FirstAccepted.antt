@@ -6,7 +6,7 @@ use Rattle.starlark_hash.specs.Search.{Asks, keys_under}
 use Rattle.starlark_hash.proofs.PositionLemmas.{position-cons, position-within}
 use Rattle.starlark_hash.proofs.SearchLemmas.{IsTest}
 
--- an index that is found lies within the list
+-- the index that is found is within the list
 pub found_within : {X : Type 0} (p : X → Bool) (xs : List X) (o : Option ℕ) → o ≡ position p xs → IfSome o (λ i. i < length xs)
 found_within p xs o e = grind (arith, position-within p xs)
 
@@ -22,7 +22,7 @@ module _ {F K V : Type 0} (g : Mut F (Bor K × Unit {0}) Bool) (t : K → Bool) 
   abbrev named : List (ℕ × Entry K V) → List (ℕ × K)
   named ps = map {B = ℕ × K} (λ p. (p.0, entry_key p.1)) ps
 
-  -- the first index from n on whose entry passes
+  -- the first index, counted from n, whose entry passes the test
   abbrev index_from : ℕ → List (Entry K V) → Option ℕ
   index_from n es = option_map (λ i. n + i) (position_of hash t es)
 
@@ -38,6 +38,6 @@ module _ {F K V : Type 0} (g : Mut F (Bor K × Unit {0}) Bool) (t : K → Bool) 
         | false ↦ asked_from es (n + 1) answer last
       ]) asks ∙ sym (index_from-cons n e es)
 
-  -- it answers the first index under the hash whose key passes
+  -- the search returns the first index under the hash whose key passes the test
   pub asks-position_of : (es : List (Entry K V)) (answer : Option ℕ) (last : F) → Asks g f (keys_under hash es) answer last → answer ≡ position_of hash t es
   asks-position_of es answer last asks = grind (arith, asked_from es 0 answer last asks)

@@ -1,11 +1,11 @@
 pub mod Masks
 pub mod Blocks
-pub mod Searching
+pub mod HashMatches
 pub mod Views
 pub mod FirstAccepted
-pub mod Ordering
-pub mod Ascending
-pub mod OneValueWritten
+pub mod ColumnComparison
+pub mod AscendingRange
+pub mod WrittenValue
 pub mod MappedRetention
-pub mod ValuesWritten
+pub mod WrittenValues
 pub mod VecMapOpen

@@ -1,10 +1,10 @@
--- What is retained of a list, seen through a map of its items.
+-- Retaining in a mapped list is retaining in the list itself.
 use Rattle.starlark_hash.proofs.Common.{Bool, List, [], ◌∷◌, map, ap, ◌∙◌, FoldsTo, map-append}
 use Rattle.std_collections.proofs.SetLists.{cond_map}
 use Rattle.starlark_hash.specs.Retain.{Retains, TakesInTurn, MayLeave}
 
 module _ {F G X Y : Type 0} (calls : F → X → Bool → X → F → Type 0) (seen : G → Y → Bool → Y → G → Type 0) (st : F → G) (h : X → Y) where
-  -- what calls may do is, seen through h, what seen may do
+  -- what a call may do to an item, a call may do to its image under h
   pub record Carries : Type 0 where
     pub at : (f : F) (x : X) (b : Bool) (y : X) (f' : F) → calls f x b y f' → seen (st f) (h x) b (h y) (st f')
 

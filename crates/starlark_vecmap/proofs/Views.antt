@@ -1,4 +1,4 @@
--- Two columns as a list of entries, and lists seen through a map of their items.
+-- Two columns as a list of entries, and mapped lists.
 use Rattle.starlark_hash.proofs.Common.{◌≡◌, ℕ, suc, List, [], ◌∷◌, ◌++◌, map, take, drop, reverse, remove, refl, sym, ap, ◌∙◌, map-append, reverse-append, keys_of, values_of}
 use Rattle.std.proofs.lemmas.List.{drop-map, take-map}
 use Rattle.std.proofs.lemmas.Simd.{map-map}
@@ -15,7 +15,7 @@ module _ {X Y : Type 0} (f : X → Y) where
   map-reverse (x ∷ xs) = rw (reverse-append (x ∷ []) xs, map-append f (reverse xs) (x ∷ []), map-reverse xs, reverse-append (f x ∷ []) (map f xs))
 
 module _ {K V : Type 0} where
-  -- the entries of the two columns of a list of pairs
+  -- the entries of the columns of a list of pairs
   pub entries_in-columns : (ps : List ((K × V) × ℕ)) → entries_in (firsts_of ps) (seconds_of ps) ≡ map entry_of ps
   entries_in-columns [] = refl
   entries_in-columns (p ∷ ps) = ap (λ l. entry_of p ∷ l) (entries_in-columns ps)
@@ -24,7 +24,7 @@ module _ {K V : Type 0} where
   pub pair_of-entry_of : (ps : List ((K × V) × ℕ)) → map pair_of (map entry_of ps) ≡ firsts_of ps
   pair_of-entry_of = map-map pair_of entry_of
 
-  -- their keys, and their values
+  -- the keys and the values of the entries' pairs
   pub keys_of-pair_of : (es : List (Entry K V)) → keys_of (map pair_of es) ≡ map entry_key es
   keys_of-pair_of = map-map (λ p. p.0) pair_of
 

@@ -1,4 +1,4 @@
-//! What a vector map does to its two columns: pairs of a key and a value, and the hash of each.
+//! The work of a vector map on its two columns: the pairs of a key and a value, and the number of each key's hash.
 ghost use Rattle.std.specs.Prelude.{◌≡◌, ◌+◌, ◌<◌, ◌≤◌, length, fold, MatchBool, IsSortedByKey};
 ghost use Rattle.starlark_hash.specs.Search.{Asks, CanSearch, keys_under};
 ghost use Rattle.starlark_vecmap.specs.Sort.{TellsAscent};
@@ -10,7 +10,8 @@ use starlark_hash::StarlarkHashValue;
 use std::cmp::Ordering;
 use std::hash::{Hash, Hasher};
 
-// The first index under the hash whose key the closure accepts, asked from the front.
+// The first index under the hash whose key the closure accepts. The closure is asked about the keys under the hash,
+// from the front.
 #[inline]
 pub(crate) fn search_columns<K, V, F: FnMut(&K) -> bool>(
     pairs: &[(K, V)],
@@ -28,7 +29,7 @@ pub(crate) fn search_columns<K, V, F: FnMut(&K) -> bool>(
     search_few(pairs, hashes, hash, accepts)
 }
 
-// The first such index of columns that one mask covers.
+// `search_columns` for at most `BLOCK` entries, whose matches fit in one mask.
 #[inline(always)]
 pub(crate) fn search_few<K, V, F: FnMut(&K) -> bool>(
     pairs: &[(K, V)],
@@ -54,7 +55,7 @@ pub(crate) fn search_few<K, V, F: FnMut(&K) -> bool>(
     None
 }
 
-// The first such index of columns for which one mask does not do.
+// `search_columns` for more than `BLOCK` entries.
 #[inline(never)]
 fn search_long<K, V, F: FnMut(&K) -> bool>(
     pairs: &[(K, V)],
@@ -77,10 +78,10 @@ fn search_long<K, V, F: FnMut(&K) -> bool>(
     None
 }
 
-// How many keys are compared before a jump, where many ascend.
+// How many keys are compared without a jump between them, in a list of which many ascend.
 const AT_ONCE: usize = 8;
 
-// Whether the keys ascend. The first few are looked at one by one, since a list in no order mostly shows it there.
+// Whether the keys ascend. The first few are compared one by one, since they mostly show that a list is not sorted.
 pub(crate) fn keys_ascend<K: Ord, V>(pairs: &[(K, V)]) -> bool
     ensures { MatchBool result (IsSortedByKey (λ p. p.0) K.cmp pairs.now) (IsSortedByKey (λ p. p.0) K.cmp pairs.now → ⊥) }
 {
@@ -116,7 +117,7 @@ fn ascend_one_by_one<K: Ord, V>(pairs: &[(K, V)], low: usize, high: usize) -> bo
     true
 }
 
-// Whether the key at the index `low` and the `AT_ONCE` keys behind it ascend. No jump lies between them.
+// Whether the key at the index `low` and the `AT_ONCE` keys after it ascend. It has no jump between them.
 #[inline]
 fn ascend_at_once<K: Ord, V>(pairs: &[(K, V)], low: usize) -> bool
     requires { low + AT_ONCE < length pairs.now }
@@ -129,7 +130,7 @@ fn ascend_at_once<K: Ord, V>(pairs: &[(K, V)], low: usize) -> bool
     !falls
 }
 
-// Writes each hash, and then what its value writes.
+// Feeds the hash of each entry, and then its value.
 pub(crate) fn hash_columns<K, V: Hash, H: Hasher>(pairs: &[(K, V)], hashes: &[u32], state: &mut H)
     requires { length hashes.now ≡ length pairs.now }
     ensures { state.new ≡ fold H.write state.old (ordered_feed V.hash_input (entries_in pairs.now hashes.now)) }

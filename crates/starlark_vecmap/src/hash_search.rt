@@ -1,17 +1,17 @@
-//! The search of a hash in an array of hashes.
+//! The search for a hash in an array of hashes.
 ghost use Rattle.std.specs.Prelude.{◌≡◌, ◌+◌, ◌==◌, ◌<◌, ◌≤◌, length, map, drop, position, IfSome};
 ghost use Rattle.std.specs.Option.{option_map};
 ghost use Rattle.std.specs.Simd.Lanes.{mask_l, chunk};
 
 use std::simd::prelude::*;
 
-// Up to so many hashes are searched without a call.
+// The number of hashes up to which a search is inlined.
 const SHORT: usize = 8;
 
 // How many hashes one mask covers.
 pub(crate) const BLOCK: usize = 32;
 
-/// The least index at which the array has this hash. `None` where it does not have it.
+/// The least index at which the array has this hash. `None` if it does not have it.
 #[inline]
 pub fn find_hash_in_array(array: &[u32], hash: u32) -> Option<usize>
     ensures index { result ≡ position (λ h. h == hash) array.now }
@@ -27,7 +27,7 @@ pub fn find_hash_in_array(array: &[u32], hash: u32) -> Option<usize>
     Some(mask.trailing_zeros() as usize)
 }
 
-// The least such index of an array of more hashes, block by block.
+// `find_hash_in_array` for more than `SHORT` hashes, block by block.
 fn find_hash_in_blocks(array: &[u32], hash: u32) -> Option<usize>
     requires { 8 < length array.now }
     ensures index { result ≡ position (λ h. h == hash) array.now }
@@ -44,7 +44,7 @@ fn find_hash_in_blocks(array: &[u32], hash: u32) -> Option<usize>
         passed += BLOCK;
         rest = tail;
     }
-    // The last block may begin among the hashes that were passed over.
+    // The last block may begin among hashes that were searched before, so that it has at least `SHORT`.
     let start = passed.min(array.len() - SHORT);
     let mask = indices_of_block(&array[start..], hash);
     if mask == 0 {
@@ -53,7 +53,7 @@ fn find_hash_in_blocks(array: &[u32], hash: u32) -> Option<usize>
     Some(start + mask.trailing_zeros() as usize)
 }
 
-// A bit for each index of an array, set where it has this hash. No branch depends on the index.
+// A bit for each index of an array, set if it has this hash there. No branch depends on the index.
 #[inline]
 pub(crate) fn indices_of(array: &[u32], hash: u32) -> u64
     requires { length array.now ≤ 32 }
@@ -66,8 +66,8 @@ pub(crate) fn indices_of(array: &[u32], hash: u32) -> u64
     }
 }
 
-// A bit for each index of a longer array. Its last hash is read by itself: it may just have been written, and a processor that reads it
-// together with others waits until it is in memory. The code is long, so it is called.
+// `indices_of` for more than `SHORT` hashes. The last hash is read by itself: it may just have been written, and a
+// processor that reads it together with others waits until it is in memory. The code is long, so it is not inlined.
 #[inline(never)]
 fn indices_of_long(array: &[u32], hash: u32) -> u64
     requires enough { 8 < length array.now }
@@ -79,8 +79,8 @@ fn indices_of_long(array: &[u32], hash: u32) -> u64
     front + (u64::from(array[last] == hash) << last)
 }
 
-// A bit for each index of a short array. Two runs of four hashes cover it: the second ends where the array does, and may begin in
-// the first, whose bits count.
+// `indices_of` for at most `SHORT` hashes. Two groups of four cover them. The second ends where the array does, and may
+// begin in the first; the bits of both count once.
 #[inline]
 fn indices_of_short(array: &[u32], hash: u32) -> u64
     requires { length array.now ≤ 8 }
@@ -94,7 +94,7 @@ fn indices_of_short(array: &[u32], hash: u32) -> u64
     indices_of_four(array, 0, hash) + ((last >> (8 - len)) << 4)
 }
 
-// A bit for each index of a block, by two runs of eight or sixteen.
+// `indices_of` for 8 to 32 hashes, by two groups of eight or of sixteen, which may overlap.
 #[inline]
 fn indices_of_block(block: &[u32], hash: u32) -> u64
     requires enough { 8 ≤ length block.now }
@@ -111,7 +111,7 @@ fn indices_of_block(block: &[u32], hash: u32) -> u64
     }
 }
 
-// A bit for each of the four indices from one on.
+// A bit for each of the four indices from `start` on.
 #[inline]
 fn indices_of_four(block: &[u32], start: usize, hash: u32) -> u64
     requires { start + 4 ≤ length block.now }
@@ -139,7 +139,7 @@ fn indices_of_sixteen(block: &[u32], start: usize, hash: u32) -> u64
     sixteen.simd_eq(u32x16::splat(hash)).to_bitmask()
 }
 
-// A bit for each index of a block of fewer than four.
+// `indices_of` for fewer than four hashes.
 #[inline]
 fn indices_of_few(block: &[u32], hash: u32) -> u64
     requires { length block.now < 4 }

@@ -1,4 +1,4 @@
-//! The vector map: a list of entries in two columns, looked up by hash and key.
+//! The vector map: a list of entries in two columns, in which a key is looked up by a search for its hash.
 #![tactic(auto)]
 
 mod columns;

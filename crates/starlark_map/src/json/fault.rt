@@ -1,4 +1,4 @@
-//! Why a JSON value is not read.
+//! The faults of reading a JSON value.
 ghost use Rattle.std.specs.Prelude.{◌≡◌, Some};
 ghost use Rattle.starlark_map.specs.JsonFaults.{fault_text};
 ghost use Rattle.starlark_map.specs.declared.json.fault.JsonFault.TheVariants.{Memory as OutOfMemory};
@@ -8,16 +8,17 @@ use std::alloc::AllocError;
 use std::error::Error;
 use std::fmt;
 
-/// Why a value is not read as a map or a set.
+/// Why a value cannot be read as a map or a set.
 #[derive(Clone, Copy, Debug, PartialEq, Eq)]
 pub enum JsonFault {
-    /// A map was wanted, and the value is no object.
+    /// A map was expected, and the value is not an object.
     NotObject,
-    /// A set was wanted, and the value is no array.
+    /// A set was expected, and the value is not an array.
     NotArray,
-    /// An item of the array is no text.
+    /// An item of the array is not a text.
     NotText,
-    /// A value of the object is no integer from -2^63 to 2^63 - 1. A float is none, also one without a fraction.
+    /// A value of the object is not an integer from -2^63 to 2^63 - 1. A float is not an integer, even if it has no
+    /// fraction.
     NotInteger,
     /// A request for memory was refused.
     Memory,

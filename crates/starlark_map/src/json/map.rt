@@ -1,5 +1,5 @@
-//! Maps to integers and JSON objects. A value may be seen as members in any order, so `ascends` says beside `entries` that
-//! those of a map that is made of one ascend.
+//! Maps to integers and JSON objects. A value may be seen as members in any order, so that `ascends` says, beside
+//! `entries`, that the members of a map made from a value ascend.
 ghost use Rattle.std.specs.Prelude.{◌≡◌, ℕ, ℤ, List, [], Some, None, IfOk, IfErr, IsOk, OnOk, MatchOption, string_bytes};
 ghost use Rattle.serde_json.specs.Data.{number, put as with_member};
 ghost use Rattle.serde_json.specs.Find.{get, of_integer};
@@ -16,8 +16,8 @@ use serde_json::{Map, Value};
 use starlark_small::SmallMap;
 use std::alloc::{AllocError, Global};
 
-/// The object of a map: each key once, with the value of its last index, as it may stand under two hashes. It is
-/// refused for memory alone, and then nothing is made; an empty map asks for none.
+/// The object of a map: each key once, with the value of its last index, since a key may be stored under two hashes. It is
+/// refused only if memory is refused, and then nothing is made; an empty map needs no memory.
 pub fn map_to_value(alloc: Global, map: &SmallMap<String, i64>) -> Result<Value, AllocError>
     ensures object { IfOk result (λ value. view value ≡ object_of (text_pairs_of map.now.entries)) }
     ensures members { IfOk result (λ value. (key : List ℕ) → get key (view value) ≡ option_map (λ n. number (of_integer n)) (last_value (text_pairs_of map.now.entries) key)) }
@@ -30,7 +30,7 @@ pub fn map_to_value(alloc: Global, map: &SmallMap<String, i64>) -> Result<Value,
     Ok(Value::from(members))
 }
 
-// Puts a copy of the key with the value into an object.
+// Puts a copy of the key, with the value, into an object.
 fn put_member(members: &mut Map<String, Value>, key: &String, value: i64) -> Result<(), AllocError>
     ensures { OnOk result (members_view members.new.entries ≡ with_member (string_bytes key.now) (number (of_integer value)) (members_view members.old.entries)) }
 {
@@ -39,11 +39,11 @@ fn put_member(members: &mut Map<String, Value>, key: &String, value: i64) -> Res
     Ok(())
 }
 
-/// The map of an object: its members in ascending order of their keys, each under its key's own hash. Another value is
-/// `NotObject`. Else the first member whose value is no integer of 64 bits decides, as `NotInteger`; memory is asked
-/// for a member only once its value, and those before, were found to be integers. So neither an empty object, nor one
-/// whose first member is at fault, is refused for memory. No answer shows at which member memory was refused. On a
-/// fault nothing is made.
+/// The map of an object: its members in ascending order of their keys, each under its key's own hash. Any other value is
+/// `NotObject`. Otherwise the first member whose value is not an integer of 64 bits decides, as `NotInteger`. Memory for a
+/// member is asked only after its value, and those before, were found to be integers. So neither an empty object, nor one
+/// whose first member is at fault, is refused for memory. No result shows at which member memory was refused. On a fault
+/// nothing is made.
 pub fn map_from_value(alloc: Global, value: &Value) -> Result<SmallMap<String, i64>, JsonFault>
     ensures entries { IfOk result (λ map. map_entries (view value.now) ≡ Some (text_entries map.entries)) }
     ensures ascends { IfOk result (λ map. IsStrictlySortedBy text_cmp (texts_of map.entries)) }
@@ -59,7 +59,7 @@ pub fn map_from_value(alloc: Global, value: &Value) -> Result<SmallMap<String, i
     Ok(map)
 }
 
-// Inserts a copy of the key with the member's integer. Memory is asked for after the integer was found.
+// Inserts a copy of the key with the member's integer. Memory is asked for only after the integer was found.
 fn insert_member(
     map: &mut SmallMap<String, i64>,
     key: &String,

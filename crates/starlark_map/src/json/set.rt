@@ -12,8 +12,8 @@ use serde_json::Value;
 use starlark_sets::SmallSet;
 use std::alloc::{AllocError, Global};
 
-/// The array of a set: its elements in their order. It is refused for memory alone, and then nothing is made; an empty
-/// set asks for none.
+/// The array of a set: its elements in their order. It is refused only if memory is refused, and then nothing is made; an
+/// empty set needs no memory.
 pub fn set_to_value(alloc: Global, set: &SmallSet<String>) -> Result<Value, AllocError>
     ensures array { IfOk result (λ value. view value ≡ array_of (texts_of set.now.entries)) }
     ensures succeeds { set.now.entries ≡ [] → IsOk result }
@@ -25,10 +25,10 @@ pub fn set_to_value(alloc: Global, set: &SmallSet<String>) -> Result<Value, Allo
     Ok(Value::from(items))
 }
 
-/// The set of an array: its texts in their order, each under its own hash; one that comes again keeps its first index.
-/// Another value is `NotArray`. Else the first item that is no text decides, as `NotText`; memory is asked for an item
-/// only once it, and those before, were found to be texts. So neither an empty array, nor one whose first item is at
-/// fault, is refused for memory. No answer shows at which item memory was refused. On a fault nothing is made.
+/// The set of an array: its texts in their order, each under its own hash; a text that occurs again keeps its first index.
+/// Any other value is `NotArray`. Otherwise the first item that is not a text decides, as `NotText`. Memory for an item is
+/// asked only after it, and those before, were found to be texts. So neither an empty array, nor one whose first item is at
+/// fault, is refused for memory. No result shows at which item memory was refused. On a fault nothing is made.
 pub fn set_from_value(alloc: Global, value: &Value) -> Result<SmallSet<String>, JsonFault>
     ensures elements { IfOk result (λ set. set_entries (view value.now) ≡ Some (text_entries set.entries)) }
     ensures fault { IfErr result (IsSetFault (view value.now)) }
@@ -43,7 +43,7 @@ pub fn set_from_value(alloc: Global, value: &Value) -> Result<SmallSet<String>, 
     Ok(set)
 }
 
-// Inserts a copy of the item's text. Memory is asked for after the text was found.
+// Inserts a copy of the item's text. Memory is asked for only after the text was found.
 fn insert_item(alloc: Global, set: &mut SmallSet<String>, item: &Value) -> Result<(), JsonFault>
     ensures ok { OnOk result ((text : List ℕ) × (as_str (view item.now) ≡ Some text) × (text_entries set.new.entries ≡ insert_entry bytes_eq (text_entries set.old.entries) (own_text text) tt)) }
     ensures err { IfErr result (λ fault. MatchOption (as_str (view item.now)) (fault ≡ JsonFault.NotText) (λ _. fault ≡ JsonFault.Memory)) }

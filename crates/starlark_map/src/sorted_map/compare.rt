@@ -1,4 +1,4 @@
-//! How `SortedMap`s compare, and what they feed to a hasher: as the ordered maps inside do.
+//! Comparison and hashing of `SortedMap`s, which are those of their ordered maps.
 ghost use Rattle.std.proofs.Common.{refl};
 ghost use Rattle.std.specs.Cmp.{on_per, on_equiv, on_total, partial_order_from_agreeing_total};
 ghost use Rattle.std.specs.Ordering.{as_partial_cmp, on};
@@ -10,7 +10,7 @@ use super::SortedMap;
 use std::cmp::Ordering;
 use std::hash::{Hash, Hasher};
 
-/// Maps are equal where they have as many entries and, item by item, the same hash, equal keys and equal values.
+/// Maps are equal if they have as many entries and, item by item, the same hash, equal keys and equal values.
 impl<K: Ord + Hash, V: PartialEq> PartialEq for SortedMap<K, V> {
     ghost eq = { on (λ m. m.entries) (same_ordered K.eq V.eq) };
 
@@ -25,7 +25,7 @@ impl<K: Ord + Hash, V: Eq> Eq for SortedMap<K, V> {
     ghost laws = { on_equiv (λ m. m.entries) (same_order_equiv K.Eq.laws V.Eq.laws) };
 }
 
-/// Of each entry its hash as one number of 32 bits, and then what its value writes.
+/// Feeds the hash of each entry, as one number of 32 bits, and then what its value feeds.
 impl<K: Ord + Hash, V: Hash> Hash for SortedMap<K, V> {
     ghost hash_input = { λ m. ordered_feed V.hash_input m.entries };
 
@@ -46,7 +46,7 @@ impl<K: Ord + Hash, V: Ord> PartialOrd for SortedMap<K, V> {
     }
 }
 
-/// By the lists of keys and values, and then by the lists of hashes, so that equal means `==`.
+/// Compares the lists of keys and values, and then the lists of hashes, so that `Equal` means `==`.
 impl<K: Ord + Hash, V: Ord> Ord for SortedMap<K, V> {
     ghost cmp = { on (λ m. m.entries) (entries_cmp K.cmp V.cmp) };
 

@@ -1,4 +1,4 @@
-//! The walks of a `SortedMap`, in ascending order of the keys.
+//! The iterators of a `SortedMap`, in ascending order of the keys.
 ghost use Rattle.std.specs.Prelude.{◌≡◌, map, ◌^◌, ◌<◌, length};
 ghost use Rattle.std.specs.Map.{values_of};
 ghost use Rattle.std.specs.Map.Iter.{deref, deref_pair};
@@ -16,7 +16,7 @@ use starlark_small::{IntoIter, Iter, IterHashed, IterMut, Keys, Values, ValuesMu
 use std::hash::Hash;
 
 impl<K: Ord + Hash, V> SortedMap<K, V> {
-    /// The keys and values in order.
+    /// The keys and values in ascending order of the keys.
     #[inline]
     pub fn iter(&self) -> Iter<'_, K, V>
         ensures pairs { result ≡ map pair_of self.now.entries }
@@ -27,7 +27,7 @@ impl<K: Ord + Hash, V> SortedMap<K, V> {
         self.map.iter()
     }
 
-    /// The keys in order.
+    /// The keys in ascending order.
     #[inline]
     pub fn keys(&self) -> Keys<'_, K, V>
         ensures keys { result ≡ map entry_key self.now.entries }
@@ -48,8 +48,8 @@ impl<K: Ord + Hash, V> SortedMap<K, V> {
         self.map.values()
     }
 
-    /// The entries in order, each key under its hash. No two have the same hash and equal keys; where each hash is the
-    /// key's own, the keys ascend strictly.
+    /// The entries in order, each key with its hash. No two have the same hash and equal keys; if each hash is the key's
+    /// own, the keys ascend strictly.
     #[inline]
     pub fn iter_hashed(&self) -> IterHashed<'_, K, V>
         ensures entries { result ≡ self.now.entries }
@@ -61,8 +61,8 @@ impl<K: Ord + Hash, V> SortedMap<K, V> {
         self.map.iter_hashed()
     }
 
-    /// The keys and values in order, to write the values. The map ends with what is left in them; keys, hashes, order,
-    /// room, capacity and index stay.
+    /// The keys and values in order, for writing the values. The map ends with what is left in them; keys, hashes, order,
+    /// room, capacity and hash index are unchanged.
     #[inline]
     pub fn iter_mut(&mut self) -> IterMut<'_, K, V>
         ensures* writes_back { sem 𝓛 (values_follow K.row V.row K.cmp K.eq K.partial_cmp K.hash_input self.entry result.1) }
@@ -73,9 +73,9 @@ impl<K: Ord + Hash, V> SortedMap<K, V> {
         self.map.iter_mut()
     }
 
-    /// The values in the order of their keys, to write them. The map ends with what is left in them; keys, hashes,
-    /// order, room, capacity and index stay.
-    #[tactic(auto, using(starlark_vecmap::proofs::ValuesWritten::written))]
+    /// The values in the order of their keys, for writing. The map ends with what is left in them; keys, hashes, order,
+    /// room, capacity and hash index are unchanged.
+    #[tactic(auto, using(starlark_vecmap::proofs::WrittenValues::written))]
     #[inline]
     pub fn values_mut(&mut self) -> ValuesMut<'_, K, V>
         ensures* writes_back { sem 𝓛 (values_follow K.row V.row K.cmp K.eq K.partial_cmp K.hash_input self.entry result.1) }
@@ -94,7 +94,7 @@ impl<K: Ord + Hash + Drop, V: Drop> IntoIterator for SortedMap<K, V> {
 
     ghost into_iter_gives = { λ m rest. (rest ≡ map pair_of m.entries) × Ascends K.cmp m.entries × GivesEach m.entries rest (K × V) };
 
-    /// The keys and values by value, in order.
+    /// The keys and values by value, in ascending order of the keys.
     #[inline]
     fn into_iter(self) -> IntoIter<K, V>
         ensures into_iter_gives { (result ≡ map pair_of self.entries) × Ascends K.cmp self.entries × GivesEach self.entries result (K × V) }
@@ -111,7 +111,7 @@ impl<'a, K: Ord + Hash, V> IntoIterator for &'a SortedMap<K, V> {
 
     ghost into_iter_gives = { λ m rest. (rest ≡ map pair_of m.now.entries) × Ascends K.cmp m.now.entries × ShowsEach m.now.entries rest (deref_pair {K = K} {X = V}) };
 
-    /// The keys and values in order.
+    /// The keys and values in ascending order of the keys.
     #[inline]
     fn into_iter(self) -> Iter<'a, K, V>
         ensures into_iter_gives { (result ≡ map pair_of self.now.entries) × Ascends K.cmp self.now.entries × ShowsEach self.now.entries result (deref_pair {K = K} {X = V}) }
@@ -128,7 +128,7 @@ impl<'a, K: Ord + Hash, V> IntoIterator for &'a mut SortedMap<K, V> {
 
     ghost into_iter_gives = { λ m rest. (rest.0 ≡ map pair_of m.now.entries) × (length m.now.entries < 2 ^ 64) };
 
-    /// The keys and values in order, to write the values, as `iter_mut` gives them.
+    /// The keys and values in order, for writing the values. They are those of `iter_mut`.
     #[inline]
     fn into_iter(self) -> IterMut<'a, K, V>
         ensures* writes_back { sem 𝓛 (values_follow K.row V.row K.cmp K.eq K.partial_cmp K.hash_input self.entry result.1) }

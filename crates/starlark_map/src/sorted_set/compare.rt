@@ -1,4 +1,4 @@
-//! How `SortedSet`s compare, and what they feed to a hasher: as the ordered sets inside do.
+//! Comparison and hashing of `SortedSet`s, which are those of their ordered sets.
 ghost use Rattle.std.specs.Prelude.{[]};
 ghost use Rattle.std.proofs.Common.{refl};
 ghost use Rattle.std.specs.Cmp.{on_equiv, on_per, on_total, partial_order_from_agreeing_total};
@@ -12,7 +12,7 @@ use super::SortedSet;
 use std::cmp::Ordering;
 use std::hash::{Hash, Hasher};
 
-/// Sets are equal where they have as many elements and, item by item, the same hash and equal elements.
+/// Sets are equal if they have as many elements and, item by item, the same hash and equal elements.
 impl<T: Ord + Hash> PartialEq for SortedSet<T> {
     ghost eq = { on (λ s. s.entries) (same_ordered T.eq same_unit) };
 
@@ -27,7 +27,7 @@ impl<T: Ord + Hash> Eq for SortedSet<T> {
     ghost laws = { on_equiv (λ s. s.entries) (same_order_equiv T.Eq.laws unit_equiv) };
 }
 
-/// Of each element its hash as one number of 32 bits.
+/// Feeds the hash of each element, as one number of 32 bits.
 impl<T: Ord + Hash> Hash for SortedSet<T> {
     ghost hash_input = { λ s. set_feed s.entries };
 
@@ -48,7 +48,7 @@ impl<T: Ord + Hash> PartialOrd for SortedSet<T> {
     }
 }
 
-/// By the lists of elements, and then by the lists of hashes, so that equal means `==`.
+/// Compares the lists of elements, and then the lists of hashes, so that `Equal` means `==`.
 impl<T: Ord + Hash> Ord for SortedSet<T> {
     ghost cmp = { on (λ s. s.entries) (entries_cmp T.cmp unit_cmp) };
 

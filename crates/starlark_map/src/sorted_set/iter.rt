@@ -1,4 +1,4 @@
-//! The walks of a `SortedSet`, in ascending order.
+//! The iterators of a `SortedSet`, in ascending order.
 ghost use Rattle.std.specs.Prelude.{◌≡◌, ◌^◌, ◌<◌, length, map};
 ghost use Rattle.std.specs.Map.Iter.{deref};
 ghost use Rattle.starlark_hash.specs.Entries.{IsSingle, entry_key};
@@ -14,9 +14,9 @@ use starlark_sets::ordered_set::{IntoIter, Iter};
 use std::hash::Hash;
 
 impl<T: Ord + Hash> SortedSet<T> {
-    /// The elements in order. No two have the same hash and are equal; where each stands under its own hash, they ascend
+    /// The elements in order. No two have the same hash and are equal; if each is stored under its own hash, they ascend
     /// strictly.
-    #[tactic(auto, using(crate::proofs::Along::along))]
+    #[tactic(auto, using(crate::proofs::AscendingKeys::along))]
     #[inline]
     pub fn iter(&self) -> Iter<'_, T>
         ensures elements { result ≡ map entry_key self.now.entries }
@@ -30,12 +30,12 @@ impl<T: Ord + Hash> SortedSet<T> {
         self.inner.iter()
     }
 
-    /// The elements of this set and those of the other that this one lacks, in ascending order, each looked for under
-    /// its stored hash; of equal ones those of this set come first. They ascend strictly, where each stands under its
-    /// own hash. It asks for no memory. No two have the same hash and are equal; an equal one of the other set under
-    /// another hash does come. The size hint goes from the number left of this set, with that of the other's left less
-    /// this set's length, up to all that are left of both. Its lower end is cut at the greatest `usize`, and its upper
-    /// end is `None` where the sum is above that. There is no exact length, and no clone.
+    /// The elements of this set and those of the other that this one lacks, in ascending order. Each is looked up under its
+    /// stored hash, so that an equal element of the other set under another hash is included; of equal elements those of
+    /// this set come first. No two have the same hash and are equal, and they ascend strictly if each is stored under its
+    /// own hash. It asks for no memory. The size hint's lower end is the number left of this set, plus the number left of
+    /// the other less this set's length; its upper end is the number left of both. The lower end is cut at the greatest
+    /// `usize`, and the upper end is `None` if the sum is above that. There is no exact length, and no clone.
     pub fn union<'a>(&'a self, other: &'a Self) -> SortedUnion<'a, T>
         ensures left { result ≡ record { left = self.now.entries; right = other.now.entries; there = self.now.entries } }
         ensures single { IsSingle T.eq (rise T.eq T.cmp self.now.entries other.now.entries) }
@@ -48,7 +48,7 @@ impl<T: Ord + Hash> SortedSet<T> {
         SortedUnion::new(self.ahead(), other.ahead(), &self.inner)
     }
 
-    // The elements in order, each under its stored hash, with the first taken beforehand.
+    // The elements in order, each with its stored hash. The first has been taken beforehand.
     #[inline]
     fn ahead(&self) -> Ahead<'_, T>
         ensures elements { result ≡ self.now.entries }
@@ -67,8 +67,8 @@ impl<T: Ord + Hash + Drop> IntoIterator for SortedSet<T> {
 
     ghost into_iter_gives = { λ s rest. (rest ≡ map entry_key s.entries) × Ascends T.cmp s.entries × GivesEach s.entries rest T };
 
-    /// The elements by value, in order. No two have the same hash and are equal; where each stands under its own hash,
-    /// they ascend strictly.
+    /// The elements by value, in order. No two have the same hash and are equal; if each is stored under its own hash, they
+    /// ascend strictly.
     #[inline]
     fn into_iter(self) -> IntoIter<T>
         ensures into_iter_gives { (result ≡ map entry_key self.entries) × Ascends T.cmp self.entries × GivesEach self.entries result T }
@@ -87,7 +87,7 @@ impl<'a, T: Ord + Hash> IntoIterator for &'a SortedSet<T> {
 
     ghost into_iter_gives = { λ s rest. (rest ≡ map entry_key s.now.entries) × Ascends T.cmp s.now.entries × ShowsEach s.now.entries rest (deref {X = T}) };
 
-    /// The elements in order, as `iter` shows them.
+    /// The elements in order. They are those of `iter`.
     #[inline]
     fn into_iter(self) -> Iter<'a, T>
         ensures into_iter_gives { (result ≡ map entry_key self.now.entries) × Ascends T.cmp self.now.entries × ShowsEach self.now.entries result (deref {X = T}) }

@@ -1,4 +1,4 @@
-//! How `SortedVec`s compare, and what they feed to a hasher: as their items in order, which is what the vector inside does.
+//! Comparison and hashing of `SortedVec`s, which are those of their items in order.
 ghost use Rattle.std.specs.Cmp.Lexicographic.{lists_agrees, lists_equiv, lists_per, lists_po, lists_ties, lists_total, pointwise, slice_cmp, slice_partial_cmp};
 ghost use Rattle.std.specs.Hash as fed;
 ghost use Rattle.std.specs.Hash.{items_Alike};

@@ -1,4 +1,4 @@
-//! The items of a `ReadyTable`, to be written along the walk.
+//! Mutable iteration over the items of a `ReadyTable`.
 ghost use Rattle.std.specs.Prelude.{◌≡◌, ℕ};
 ghost use Rattle.std.specs.Borrow.{sem};
 ghost use Rattle.starlark_columns.specs.Loan.{cells_follow};
@@ -15,7 +15,7 @@ use crate::tags::tags_beside;
 use starlark_columns::Bytes;
 use starlark_columns::loan::{First, Keeps};
 
-// The members of slots, to be written but for what `P` keeps.
+// Lends the members of slots for writing, except what `P` keeps.
 #[inline]
 fn lend_members<T, H: KeptHash, P: Keeps<(Kept<H>, T)>>(
     slots: &mut Slots<T, H>,
@@ -27,7 +27,7 @@ fn lend_members<T, H: KeptHash, P: Keeps<(Kept<H>, T)>>(
     slots.lend()
 }
 
-// The tags, which are written no more.
+// Lends the tags for reading. They end unchanged.
 #[inline]
 fn shown(tags: &mut Bytes) -> &Bytes
     ensures* stay { sem 𝓛 (tags_stay tags.entry) }
@@ -36,7 +36,7 @@ fn shown(tags: &mut Bytes) -> &Bytes
     tags
 }
 
-// Both at once.
+// Lends the members and the tags, by one call.
 #[inline]
 fn lend_fields<'a, T, H: KeptHash, P: Keeps<(Kept<H>, T)>>(
     slots: &'a mut Slots<T, H>,
@@ -55,7 +55,7 @@ impl<T, H: KeptHash> ReadyTable<T, H> {
     ghost use Rattle.starlark_table.specs.Lend.{table_follows};
     ghost use Rattle.starlark_table.specs.Lend.{table_keeps};
 
-    // The members, to be written but for what `P` keeps of them, and the tags, to be read.
+    // Lends the members for writing, except what `P` keeps of them, and the tags for reading.
     #[inline]
     pub(super) fn lend_kept<P: Keeps<(Kept<H>, T)>>(
         &mut self,
@@ -71,7 +71,7 @@ impl<T, H: KeptHash> ReadyTable<T, H> {
     }
 
     #[inline]
-    #[tactic(auto, using(crate::proofs::Marked::marking))]
+    #[tactic(auto, using(crate::proofs::LentSlots::marking))]
     pub(crate) fn lend(&mut self) -> Loan<'_, T, H>
         ensures* writes_back { sem 𝓛 (table_follows T.row H.row ⟦<H as KeptHash>⟧ self.entry result.tie) }
         ensures rest { (result.from ≡ 0) × (result.rest ≡ self.old.slots) }
@@ -81,8 +81,8 @@ impl<T, H: KeptHash> ReadyTable<T, H> {
         Loan::new(slots, tags.as_slice(count))
     }
 
-    /// The items along the walk, each for writing, with exact length and size hint. The table ends with the items that
-    /// are left in its slots; hashes and room stay, and so does all else.
+    /// The items in the order of iteration, each for writing, with exact length and size hint. The table ends with the
+    /// items that are left in its slots. Hashes, room and all else are unchanged.
     #[inline]
     pub fn iter_mut(&mut self) -> IterMut<'_, T, H>
         ensures* writes_back { sem 𝓛 (table_follows T.row H.row ⟦<H as KeptHash>⟧ self.entry result.1) }

@@ -1,4 +1,4 @@
-//! Tables of pairs, whose values are written under their keys.
+//! Tables of pairs, whose values are written in place.
 ghost use Rattle.std.specs.Prelude.{◌≡◌, ◌^◌, ◌<◌, length};
 ghost use Rattle.std.specs.Borrow.{sem};
 ghost use Rattle.starlark_table.specs.Table.{items_of};
@@ -12,9 +12,9 @@ use crate::tags::tags_beside;
 use starlark_columns::loan::AllButLast;
 
 impl<K, V, H: KeptHash> ReadyTable<(K, V), H> {
-    // The right to write the values, which a `PairsMut` walks.
+    // The right to write the values, for a `PairsMut`.
     #[inline]
-    #[tactic(auto, using(crate::proofs::Marked::marking))]
+    #[tactic(auto, using(crate::proofs::LentSlots::marking))]
     fn lend_pairs(&mut self) -> PairLoan<'_, K, V, H>
         ensures* writes_back { sem 𝓛 (values_follow K.row V.row H.row ⟦<H as KeptHash>⟧ self.entry result.tie) }
         ensures rest { (result.from ≡ 0) × (result.rest ≡ self.old.slots) }
@@ -24,8 +24,8 @@ impl<K, V, H: KeptHash> ReadyTable<(K, V), H> {
         PairLoan::new(slots, tags.as_slice(count))
     }
 
-    /// The pairs along the walk, each value for writing, with exact length and size hint. There are fewer than 2^64 of
-    /// them. The table ends with the values that are left in its slots; hashes and keys stay, and so does all else.
+    /// The pairs in the order of iteration, each value for writing, with exact length and size hint. There are fewer than
+    /// 2^64 of them. The table ends with the values that are left in its slots. Hashes, keys and all else are unchanged.
     #[inline]
     pub fn pairs_mut(&mut self) -> PairsMut<'_, K, V, H>
         ensures* writes_back { sem 𝓛 (values_follow K.row V.row H.row ⟦<H as KeptHash>⟧ self.entry result.1) }

@@ -1,4 +1,4 @@
-//! `UnorderedMap`s made of clones.
+//! Clones of `UnorderedMap`s.
 ghost use Rattle.std.specs.List.{AllZip};
 ghost use Rattle.std.specs.Prelude.{◌≡◌, [], IfOk, IsOk};
 ghost use Rattle.starlark_hash.specs.Clone.{IsEqualClone, IsLawfulClone, IsPairClone};
@@ -10,10 +10,10 @@ use std::alloc::AllocError;
 use std::hash::Hash;
 
 impl<K: Eq + Hash + Clone, V: Clone> UnorderedMap<K, V> {
-    /// A map of clones of the pairs, with as much room. Where memory is refused, also to the clone of a key or a value,
-    /// nothing is made. An empty map without room needs none. Required is that a clone of a key is equal to it.
+    /// A map of clones of the pairs, with as much room. If memory is refused, also to the clone of a key or a value,
+    /// nothing is made. An empty map without room needs no memory. The clone of a key must be equal to the key.
     pub fn clone(&self) -> Result<Self, AllocError>
-        // A clone of a key is equal to it.
+        // The clone of a key is equal to the key.
         requires { IsEqualClone K.eq K.is_clone }
         ensures pairs { IfOk result (λ map. AllZip (IsPairClone K.is_clone V.is_clone) (pairs_of self.now) (pairs_of map)) }
         ensures same { IsLawfulClone K.is_clone → IsLawfulClone V.is_clone → IfOk result (λ map. pairs_of map ≡ pairs_of self.now) }

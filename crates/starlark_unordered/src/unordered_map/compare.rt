@@ -13,7 +13,7 @@ use starlark_table::Iter;
 use std::fmt;
 use std::hash::{Hash, Hasher};
 
-// The sum in 64 bits of what a new hasher finishes with after each pair.
+// The sum in 64 bits of the result of a new hasher for each pair.
 fn sum_of<K: Hash, V: Hash>(mut pairs: Iter<'_, (K, V), StarlarkHashValue>) -> u64
     ensures { result ≡ hash_sum K.hash_input V.hash_input pairs.entry % 2 ^ 64 }
 {
@@ -45,7 +45,7 @@ impl<K: Eq + Hash, V: Eq> PartialEq for UnorderedMap<K, V> {
 
     fn eq(&self, other: &UnorderedMap<K, V>) -> bool
         ensures same { result ≡ same_bag (pair_eq K.eq V.eq) (pairs_of self.now) (pairs_of other.now) }
-        // If they have as many pairs, this is whether the one has each pair of the other.
+        // If the maps have as many pairs, the result is whether this one has each pair of the other.
         ensures has_each { length (pairs_of self.now) ≡ length (pairs_of other.now) → result ≡ list_all (has_equal K.eq V.eq (pairs_of other.now)) (pairs_of self.now) }
     {
         self.len() == other.len() && found_in(self.table.iter(), other)

@@ -1,4 +1,4 @@
-//! What an `UnorderedMap` has at a key.
+//! Look-ups in an `UnorderedMap`.
 ghost use Rattle.std.specs.Prelude.{◌≡◌, IfSome, IsSome, Some, is_some, true};
 ghost use Rattle.std.specs.Borrow.{sem};
 ghost use Rattle.std.specs.List.{IsAmong};
@@ -28,11 +28,11 @@ impl<K: Eq + Hash, V> UnorderedMap<K, V> {
         Some(value)
     }
 
-    /// The value at the key, as `get` answers it, where this is its own hash: another hash finds nothing.
+    /// The value at the key, if this is the key's own hash. Another hash finds nothing.
     #[inline(always)]
     pub fn get_hashed<Q: Query<K>>(&self, key: Hashed<Q>) -> Option<&V>
         ensures value { option_copied result ≡ get_under Q.stands_for K.hash_input self.now key }
-        // So it is the value that is found without a hash, and all that is found at an equal key with this own hash.
+        // A look-up without a hash finds the same value. A look-up at any equal key with this own hash finds it here too.
         ensures found { IfSome (option_copied result) (λ value. get Q.stands_for self.now (key_of key) ≡ Some value) }
         ensures own { (same : K) → hash_of key ≡ own_hash K.hash_input same → Q.stands_for (key_of key) ≡ K.eq same → get K.eq self.now same ≡ option_copied result }
         ensures member { IfSome (option_copied result) (λ value. IsAmong (values_of (pairs_of self.now)) value) }
@@ -53,15 +53,16 @@ impl<K: Eq + Hash, V> UnorderedMap<K, V> {
     #[inline(always)]
     pub fn contains_key_hashed<Q: Query<K>>(&self, key: Hashed<Q>) -> bool
         ensures value { result ≡ is_some (get_under Q.stands_for K.hash_input self.now key) }
-        // So a look-up without a hash finds the key, and tells it of an equal key with this own hash.
+        // If it is found, a look-up without a hash finds the key. If an equal key with this own hash is there, it is found
+        // here too.
         ensures found { result ≡ true → contains Q.stands_for self.now (key_of key) ≡ true }
         ensures own { (same : K) → hash_of key ≡ own_hash K.hash_input same → Q.stands_for (key_of key) ≡ K.eq same → contains K.eq self.now same ≡ result }
     {
         self.get_hashed(key).is_some()
     }
 
-    /// The value at the key that the query stands for, to be written. The map ends with what is left in it, and all
-    /// else stays. `None` where there is no such key, and then the map is as it was.
+    /// The value at the key that the query stands for, for writing. The map ends with what is left in it, and all else is
+    /// unchanged. `None` if there is no such key; then the map is unchanged.
     #[inline(always)]
     pub fn get_mut<Q: HashQuery<K>>(&mut self, query: Q) -> Option<&mut V>
         ensures* writes_back { sem 𝓛 (lends_at K.row V.row K.Hash self.entry (Q.stands_for query) result) }
@@ -82,7 +83,7 @@ impl<K: Eq + Hash, V, Q: HashQuery<K>> Index<Q> for UnorderedMap<K, V> {
 
     ghost index_gives = { λ m query value. get Q.stands_for m query ≡ Some value };
 
-    /// The value at the key, which is to be there.
+    /// The value at the key, which must be there.
     #[inline]
     fn index(&self, query: Q) -> &V {
         self.get(query).unwrap()

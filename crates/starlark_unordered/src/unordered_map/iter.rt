@@ -31,7 +31,7 @@ impl<K: Eq + Hash, V> UnorderedMap<K, V> {
         ensures fits { length (pairs_of self.now) < 2 ^ 64 }
         ensures runs { ShowsInOrder (deref_pair {K = K} {X = V}) }
     {
-        // The number of pairs is a `usize`, as `fits` says.
+        // The number of pairs is a `usize`, which the clause `fits` says.
         prove!(self.table.len() <= usize::MAX);
         Entries::new(self.table.iter())
     }
@@ -57,7 +57,7 @@ impl<K: Eq + Hash, V> UnorderedMap<K, V> {
         ValuesUnordered::new(self.entries_unordered())
     }
 
-    /// The pairs, each once, in ascending order of their keys. Refused only for want of memory.
+    /// The pairs, each once, in ascending order of their keys. Refused only if memory is refused.
     pub fn entries_sorted(&self) -> Result<Vec<(&K, &V)>, AllocError>
     where
         K: Ord,
@@ -69,7 +69,7 @@ impl<K: Eq + Hash, V> UnorderedMap<K, V> {
         Ok(entries)
     }
 
-    /// The same pairs in a map of the standard library. Where memory is refused, they are dropped.
+    /// The pairs in a map of the standard library. If memory is refused, they are dropped.
     pub fn into_hash_map(self) -> Result<HashMap<K, V>, AllocError>
     where
         K: Drop,
@@ -82,9 +82,9 @@ impl<K: Eq + Hash, V> UnorderedMap<K, V> {
         Ok(map)
     }
 
-    /// The map with what `f` gives in the place of each value. All its memory is asked for before the first call;
-    /// refused, nothing was called, and the map comes back; an empty map is not refused. `f` is called once on each
-    /// value, along the walk, its state carried on.
+    /// The map with what `f` returns in place of each value. All memory is asked for before the first call. If it is
+    /// refused, `f` was not called, and the map comes back; an empty map is not refused. `f` is called once on each value,
+    /// in the order of iteration.
     pub fn map_values<W, F: FnMut(V) -> W>(
         self,
         f: F,
@@ -94,13 +94,13 @@ impl<K: Eq + Hash, V> UnorderedMap<K, V> {
         V: Drop,
         W: Drop,
         requires { CanMapValues F.FnMut (pairs_of self) f }
-        // Done: `f` was called on each value in turn, and the keys stay.
+        // Done: `f` was called on each value in turn, and the keys are unchanged.
         ensures mapped { IfOk result (λ map. (last : F) × (mapped : List (K × W)) × MapsValues F.FnMut f (pairs_of self) mapped last × IsPermutation mapped (pairs_of map)) }
         ensures count { IfOk result (λ map. length (pairs_of map) ≡ length (pairs_of self)) }
-        // Where each call gives this change of the value, and leaves `f` as it was, look-ups find what was there, changed.
+        // If each call returns this change of the value and leaves `f` unchanged, look-ups find the old values, changed.
         ensures changed { (change : V → W) → GivesChange F.FnMut f change → IfOk result (λ map. (key : K) → get K.eq map key ≡ option_map change (get K.eq self key)) }
         ensures room { IfOk result (λ map. table_len map + map.room ≤ most_for (table_len self)) }
-        // Refused: the map comes back. An empty one is not refused.
+        // Refused: the map comes back. An empty map is not refused.
         ensures handed_back { IfErr result (λ map. map ≡ self) }
         ensures none_for_none { pairs_of self ≡ [] → IsOk result }
     {
@@ -115,8 +115,8 @@ impl<K: Eq + Hash, V> UnorderedMap<K, V> {
         })
     }
 
-    /// The pairs, each once, to write the values, with exact length and size hint. No two keys are equal. The map ends
-    /// with what is left in the values, and all else stays.
+    /// The pairs, each once, for writing the values, with exact length and size hint. No two keys are equal. The map ends
+    /// with what is left in the values, and all else is unchanged.
     #[inline]
     pub fn entries_unordered_mut(&mut self) -> EntriesMut<'_, K, V>
         ensures* writes_back { sem 𝓛 (values_follow K.row V.row K.Hash self.entry result.1) }
@@ -127,8 +127,8 @@ impl<K: Eq + Hash, V> UnorderedMap<K, V> {
         self.table.pairs_mut()
     }
 
-    /// The values, each once for its key, to write them, with exact length and size hint. The map ends with what is
-    /// left in them, and all else stays.
+    /// The values, each once for its key, for writing, with exact length and size hint. The map ends with what is left in
+    /// them, and all else is unchanged.
     #[inline]
     pub fn values_unordered_mut(&mut self) -> ValuesUnorderedMut<'_, K, V>
         ensures* writes_back { sem 𝓛 (values_follow K.row V.row K.Hash self.entry result.1) }

@@ -9,15 +9,15 @@ use starlark_hash::{HashQuery, StarlarkHashValue};
 use std::hash::Hash;
 
 impl<K: Eq + Hash, V> UnorderedMap<K, V> {
-    /// Removes the pair of the key, and answers its value. The other pairs stay, and the room comes back. Where the
+    /// Removes the pair of the key, and returns its value. The other pairs are unchanged, and the room comes back. If the
     /// map lacks the key, nothing changes.
     pub fn remove<Q: HashQuery<K>>(&mut self, query: Q) -> Option<V>
     where
         K: Drop,
         // The key's old value comes back, if it had one.
         ensures value { result ≡ get Q.stands_for self.old query }
-        // The key has no value, and each other key what it had. As a list, one pair fewer, if it was there; how many
-        // there are, and what the values weigh together, follows.
+        // The key has no value, and each other key what it had. The next clauses say so of the list of pairs, of their
+        // number, and of the total weight of the values.
         ensures updates { Writes K.eq (Q.stands_for query) self.old self.new None }
         ensures pairs { IfSome result (λ value. IsWithout (Q.stands_for query) value (pairs_of self.old) (pairs_of self.new)) }
         ensures count { length (pairs_of self.old) ≡ length (pairs_of self.new) + (if contains Q.stands_for self.old query then 1 else 0) }
@@ -35,7 +35,7 @@ impl<K: Eq + Hash, V> UnorderedMap<K, V> {
         }
     }
 
-    /// Removes every pair. The room comes back.
+    /// Removes every pair. Their room comes back.
     #[tactic(auto, using(crate::proofs::Callers::callers))]
     pub fn clear(&mut self)
     where

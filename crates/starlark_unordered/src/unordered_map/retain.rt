@@ -11,19 +11,19 @@ use super::UnorderedMap;
 use std::hash::Hash;
 
 impl<K: Eq + Hash, V> UnorderedMap<K, V> {
-    /// Keeps the pairs that `keep` accepts, with the value that it left, and removes the others. `keep` is called
-    /// once on each pair, along the walk, its state carried on. No memory is asked for, and the room of what was taken
-    /// out comes back.
+    /// Keeps the pairs that `keep` accepts, with the value that it left, and removes the others. `keep` is called once on
+    /// each pair, in the order of iteration. No memory is asked for, and the room of the removed pairs comes back.
     pub fn retain<F: FnMut(&K, &mut V) -> bool>(&mut self, mut keep: F)
     where
         K: Drop,
         V: Drop,
         requires { CanAskPairs F.FnMut (pairs_of self.old) keep }
-        // The pairs that were accepted, as `keep` left them. No key is new, and there are no more than there were.
+        // The pairs that were accepted, with the values that `keep` left. No key is new, and there are at most as many
+        // pairs as before.
         ensures kept { (kept : List (K × V)) × RetainsInTurn (AsksPair F.FnMut) keep (pairs_of self.old) kept × IsPermutation kept (pairs_of self.new) }
         ensures no_new { (key : K) → contains K.eq self.new key ≡ true → contains K.eq self.old key ≡ true }
         ensures fewer { length (pairs_of self.new) ≤ length (pairs_of self.old) }
-        // Where `keep` answers a test, and writes nothing; and where it keeps all, and writes each value.
+        // Two special cases: `keep` answers a test and writes nothing; `keep` accepts all pairs and changes each value.
         ensures tested { (test : K × V → Bool) → AnswersTest F.FnMut keep test → IsPermutation (filter test (pairs_of self.old)) (pairs_of self.new) }
         ensures changed { (change : V → V) → LeavesChange F.FnMut keep change → (key : K) → get K.eq self.new key ≡ option_map change (get K.eq self.old key) }
         // The room of the removed pairs came back.

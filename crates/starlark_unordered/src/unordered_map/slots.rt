@@ -1,4 +1,4 @@
-//! The pairs of an `UnorderedMap` by their slots, on which the calls and the entries are written.
+//! The pairs of an `UnorderedMap` by their slots, for the calls and the entries.
 ghost use Rattle.std.specs.Prelude.{◌≡◌, ◌<◌, true, None, Some, IfErr, IfOk, IfSome, OnErr, OnOk};
 ghost use Rattle.std.specs.Borrow.{sem};
 ghost use Rattle.std.specs.Fn.{CalledAt, TakesAt};
@@ -22,7 +22,7 @@ use std::mem;
 impl<K: Eq + Hash, V> UnorderedMap<K, V> {
     ghost use Rattle.starlark_unordered.specs.Lend.{lends_value};
 
-    // The slot of the key, under the query's own hash.
+    // The slot of the key, found under the query's own hash.
     #[inline(always)]
     pub(crate) fn slot_under<Q: HashQuery<K>>(
         &self,
@@ -36,7 +36,7 @@ impl<K: Eq + Hash, V> UnorderedMap<K, V> {
             .find(hash, move |p: &(K, V)| query.stands_for(&p.0))
     }
 
-    // The slot of the key that the query stands for, where this is the key's own hash.
+    // The slot of the key that the query stands for, if this is the key's own hash.
     #[inline(always)]
     pub(crate) fn slot_hashed<Q: Query<K>>(
         &self,
@@ -45,13 +45,13 @@ impl<K: Eq + Hash, V> UnorderedMap<K, V> {
     ) -> Option<usize>
         ensures { IsSlotOf (under_own K.hash_input hash (Q.stands_for query)) self.now result }
     {
-        // A hash value has 32 bits, so no other one is promoted alike.
+        // A hash value has 32 bits, so that no other one has the same promoted hash.
         prove!(hash.get() <= u32::MAX);
         self.table
             .find(hash, move |p: &(K, V)| query.stands_for(&p.0))
     }
 
-    // The pair of the key, under the query's own hash.
+    // The pair of the key, found under the query's own hash.
     #[inline(always)]
     pub(super) fn pair_under<Q: HashQuery<K>>(
         &self,
@@ -65,7 +65,7 @@ impl<K: Eq + Hash, V> UnorderedMap<K, V> {
             .find_item(hash, move |p: &(K, V)| query.stands_for(&p.0))
     }
 
-    // The pair of the key that the query stands for, where this is the key's own hash.
+    // The pair of the key that the query stands for, if this is the key's own hash.
     #[inline(always)]
     pub(super) fn pair_hashed<Q: Query<K>>(
         &self,
@@ -74,7 +74,7 @@ impl<K: Eq + Hash, V> UnorderedMap<K, V> {
     ) -> Option<&(K, V)>
         ensures { option_map (λ p. p.1) (option_copied result) ≡ found (under_own K.hash_input hash (Q.stands_for query)) (pairs_of self.now) }
     {
-        // As in `slot_hashed`.
+        // A hash value has 32 bits, so that no other one has the same promoted hash.
         prove!(hash.get() <= u32::MAX);
         self.table
             .find_item(hash, move |p: &(K, V)| query.stands_for(&p.0))
@@ -90,7 +90,7 @@ impl<K: Eq + Hash, V> UnorderedMap<K, V> {
         requires { CanSearch F.FnMut (keys_under K.hash_input hash self.now) is_match }
         ensures accepts { Accepts F.FnMut K.hash_input hash is_match self.now result }
     {
-        // As in `slot_hashed`.
+        // A hash value has 32 bits, so that no other one has the same promoted hash.
         prove!(hash.get() <= u32::MAX);
         self.table.find(
             hash,
@@ -101,8 +101,8 @@ impl<K: Eq + Hash, V> UnorderedMap<K, V> {
         )
     }
 
-    // An empty slot for a new key under its own hash, where there is room, and one look at the table shows that no key is
-    // the query's. It is good until the next change.
+    // An empty slot for a new key under its own hash, if there is room and the first group shows that no key is the
+    // query's. The slot is valid until the next change.
     #[inline(always)]
     pub(crate) fn slot_for_new<Q: HashQuery<K>>(
         &self,
@@ -120,7 +120,7 @@ impl<K: Eq + Hash, V> UnorderedMap<K, V> {
         self.table.vacancy(hash)
     }
 
-    // Puts a new key under its own hash into such a slot.
+    // Inserts a new key under its own hash into a slot that `slot_for_new` returned.
     #[inline(always)]
     pub(crate) fn insert_at(&mut self, hash: StarlarkHashValue, key: K, value: V, slot: usize)
         requires own { hash ≡ own_hash K.hash_input key }
@@ -133,7 +133,7 @@ impl<K: Eq + Hash, V> UnorderedMap<K, V> {
         self.table.insert_at(hash, (key, value), slot);
     }
 
-    // Puts a new key in under its own hash, and answers its slot.
+    // Inserts a new key under its own hash, and returns its slot.
     pub(crate) fn insert_new(
         &mut self,
         hash: StarlarkHashValue,
@@ -161,7 +161,7 @@ impl<K: Eq + Hash, V> UnorderedMap<K, V> {
         &self.table.get_unchecked(slot).1
     }
 
-    // The value in a slot, to be written.
+    // The value in a slot, for writing.
     #[tactic(auto, using(crate::proofs::Keys::full_slots))]
     #[inline]
     pub(crate) fn value_at_mut(&mut self, slot: usize) -> &mut V
@@ -182,7 +182,7 @@ impl<K: Eq + Hash, V> UnorderedMap<K, V> {
         pair
     }
 
-    // The pair in a slot, its value to be written.
+    // The pair in a slot, its value for writing.
     #[tactic(auto, using(crate::proofs::Keys::full_slots))]
     #[inline]
     pub(crate) fn pair_at_mut(&mut self, slot: usize) -> (&K, &mut V)
@@ -194,7 +194,7 @@ impl<K: Eq + Hash, V> UnorderedMap<K, V> {
         (&pair.0, &mut pair.1)
     }
 
-    // Puts an equal key in the place of the one in a slot, which is answered.
+    // Replaces the key in a slot by an equal one, and returns the old one.
     #[tactic(auto, using(crate::proofs::Keys::full_slots))]
     #[inline]
     pub(crate) fn replace_key(&mut self, slot: usize, key: K) -> K

@@ -19,7 +19,7 @@ impl<T: Eq + Hash> PartialEq for UnorderedSet<T> {
 
     fn eq(&self, other: &UnorderedSet<T>) -> bool
         ensures same { result ≡ same_bag (pair_eq T.eq same_unit) (pairs_of self.now) (pairs_of other.now) }
-        // If they are equal, each of them has what the other has.
+        // If the sets are equal, each has the elements that the other has.
         ensures agrees { result ≡ true → (element : T) → contains T.eq self.now element ≡ contains T.eq other.now element }
     {
         self.map == other.map

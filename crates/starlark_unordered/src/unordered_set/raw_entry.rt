@@ -1,4 +1,4 @@
-//! Slots of a set that a query, or a hash and a closure choose: those of its map.
+//! Raw entries of a set, found by a query or by a hash and a closure. They are those of its map.
 ghost use Rattle.std.specs.Prelude.{◌≡◌, ◌+◌, ◌∷◌, true, Some, None, IfErr, IfSome, IsPermutation, OnErr, OnOk};
 ghost use Rattle.std.specs.Borrow.{sem};
 ghost use Rattle.std.specs.Option.{is_some};
@@ -16,21 +16,21 @@ use crate::unordered_map::UnorderedMap;
 use starlark_hash::{HashQuery, Hashed, NoRoom, Query, StarlarkHashValue};
 use std::hash::Hash;
 
-/// A set whose slot is still to be named. Let go, it leaves the set as it was.
+/// A set whose slot has still to be chosen. Dropping this leaves the set unchanged.
 pub struct RawEntryBuilderMut<'a, T: Eq + Hash> {
     map: &'a mut UnorderedMap<T, ()>,
 }
 
-/// The slot that was chosen, which has an element or lacks one.
+/// The chosen slot, occupied by an element or vacant.
 #[derive(Drop)]
 pub enum RawEntryMut<'a, T: Eq + Hash> {
     /// An element was found.
     Occupied(RawOccupiedEntryMut<'a, T>),
-    /// None was.
+    /// No element was found.
     Vacant(RawVacantEntryMut<'a, T>),
 }
 
-/// An element that the set has.
+/// An element of the set.
 #[derive(Drop)]
 pub struct RawOccupiedEntryMut<'a, T: Eq + Hash> {
     map: &'a mut UnorderedMap<T, ()>,
@@ -38,13 +38,13 @@ pub struct RawOccupiedEntryMut<'a, T: Eq + Hash> {
     ghost there: { is_some (item_in map.now slot) ≡ true },
 }
 
-/// A set in which no element was found. Let go, it leaves the set as it was.
+/// A set in which no element was found. Dropping the entry leaves the set unchanged.
 pub struct RawVacantEntryMut<'a, T: Eq + Hash> {
     map: &'a mut UnorderedMap<T, ()>,
 }
 
 impl<T: Eq + Hash> Drop for RawEntryBuilderMut<'_, T> {
-    // The set ends as it was.
+    // The set ends unchanged.
     fn drop(self)
         ensures { self.exit.0.now ≡ self.entry.map.now }
     {
@@ -53,7 +53,7 @@ impl<T: Eq + Hash> Drop for RawEntryBuilderMut<'_, T> {
 }
 
 impl<T: Eq + Hash> Drop for RawVacantEntryMut<'_, T> {
-    // The set ends as it was.
+    // The set ends unchanged.
     fn drop(self)
         ensures { self.exit.0.now ≡ self.entry.map.now }
     {
@@ -64,7 +64,7 @@ impl<T: Eq + Hash> Drop for RawVacantEntryMut<'_, T> {
 impl<T: Eq + Hash> UnorderedSet<T> {
     ghost use Rattle.starlark_unordered.specs.SetLend.{lends_entry};
 
-    /// The set, whose slot is to be named by a query, or by a hash and a closure.
+    /// A builder of raw entries of the set, whose slot is chosen by a query, or by a hash and a closure.
     #[inline]
     pub fn raw_entry_mut(&mut self) -> RawEntryBuilderMut<'_, T>
         ensures* writes_back { sem 𝓛 (lends_entry T.row T.Hash self.entry result) }
@@ -77,7 +77,7 @@ impl<T: Eq + Hash> UnorderedSet<T> {
 impl<'a, T: Eq + Hash> RawEntryBuilderMut<'a, T> {
     ghost use Rattle.starlark_unordered.specs.SetRawEntry.{set_of_raw, slot_of_entry};
 
-    /// The element that the query stands for, or vacant where the set lacks it. The set is as it was.
+    /// The element that the query stands for, or a vacant entry if the set lacks it. The set is unchanged.
     #[inline]
     pub fn from_entry<Q: HashQuery<T>>(self, query: Q) -> RawEntryMut<'a, T>
         ensures names { NamesSlot (Q.stands_for query) self.entry.map (set_of_raw result) (slot_of_entry result) }
@@ -89,8 +89,8 @@ impl<'a, T: Eq + Hash> RawEntryBuilderMut<'a, T> {
         }
     }
 
-    /// The element that the query stands for, where the hash that is brought is its own, or else vacant. The set is as
-    /// it was.
+    /// The element that the query stands for, if the supplied hash is its own, or otherwise a vacant entry. The set is
+    /// unchanged.
     #[inline]
     pub fn from_entry_hashed<Q: Query<T>>(self, element: Hashed<Q>) -> RawEntryMut<'a, T>
         ensures names { NamesSlot (under_own T.hash_input (hash_of element) (Q.stands_for (key_of element))) self.entry.map (set_of_raw result) (slot_of_entry result) }
@@ -102,10 +102,10 @@ impl<'a, T: Eq + Hash> RawEntryBuilderMut<'a, T> {
         }
     }
 
-    /// An element whose own hash this is, and which `is_match` accepts. It is asked about elements of this hash alone,
-    /// about each at most once, in no promised order, until it accepts one; vacant says that it refused them all.
-    /// Required is no more than that it may be called on those elements, in the states that its refusals leave. The set
-    /// is as it was.
+    /// An element whose own hash this is and which `is_match` accepts. `is_match` is called only on elements of this hash,
+    /// at most once on each and in no promised order, until it accepts one; a vacant entry says that it refused them all.
+    /// The call requires only that `is_match` may be called on those elements, in the states that its refusals leave. The
+    /// set is unchanged.
     pub fn from_hash<F: FnMut(&T) -> bool>(
         self,
         hash: StarlarkHashValue,
@@ -113,7 +113,7 @@ impl<'a, T: Eq + Hash> RawEntryBuilderMut<'a, T> {
     ) -> RawEntryMut<'a, T>
         requires { CanSearch F.FnMut (keys_under T.hash_input hash self.map.now) is_match }
         ensures holds { HoldsMap self.entry.map (set_of_raw result) }
-        // The slot of a key of this own hash that the closure accepts, or none where it refuses them all.
+        // The slot of an element of this own hash that the closure accepts, or none if it refuses them all.
         ensures found { (last : F) × Searches F.FnMut (keys_under T.hash_input hash self.entry.map.now) is_match (slot_of_entry result) last }
     {
         let RawEntryBuilderMut { map } = self;
@@ -127,7 +127,7 @@ impl<'a, T: Eq + Hash> RawEntryBuilderMut<'a, T> {
 impl<T: Eq + Hash> RawOccupiedEntryMut<'_, T> {
     ghost use Rattle.starlark_unordered.specs.SetRawEntry.{stored_element, with_raw_element};
 
-    /// Takes the element out, and answers it. The others stay, and the room comes back.
+    /// Removes the element, and returns it. The other elements are unchanged, and the room comes back.
     #[inline]
     pub fn remove(self) -> T
         ensures element { stored_element self.entry ≡ Some result }
@@ -139,8 +139,8 @@ impl<T: Eq + Hash> RawOccupiedEntryMut<'_, T> {
         element
     }
 
-    /// Puts this element, which is to be equal, in the place of the one that is there, which is answered. The others
-    /// stay, and so does the room.
+    /// Replaces the element, and returns the old one. The new element must be equal to it. The other elements and the room
+    /// are unchanged.
     #[inline]
     pub fn insert(&mut self, element: T) -> T
         requires { IfSome (stored_element self.old) (λ there. T.eq element there ≡ true) }
@@ -156,16 +156,16 @@ impl<T: Eq + Hash> RawOccupiedEntryMut<'_, T> {
 }
 
 impl<T: Eq + Hash> RawVacantEntryMut<'_, T> {
-    /// Puts an element in under its own hash, and lends nothing. That the set lacks it is required. It is refused where
-    /// there is no room and no memory is found: then it comes back, and the set is as it was.
+    /// Inserts an element under its own hash, and lends nothing. The set must lack the element. It is refused if there is
+    /// no room and no memory is found: then the element comes back, and the set is unchanged.
     pub fn insert(self, element: T) -> Result<(), NoRoom<T>>
         requires { get T.eq self.map.now element ≡ None }
-        // Done: one element more.
+        // Done: there is one more element.
         ensures adds { OnOk result (AddsPair T.eq self.entry.map.now self.exit.0.now element tt) }
-        // Refused: only at room 0. The element comes back, and the set is as it was.
+        // Refused: only at room 0. The element comes back, and the set is unchanged.
         ensures refused { OnErr result (IsRefusedPair T.eq self.entry.map.now self.exit.0.now element) }
         ensures handed_back { IfErr result (λ refused. refused.0 ≡ element) }
-        // It grows only for an element that does not fit.
+        // The set grows only for an element that does not fit.
         ensures memory { GrowsAsNeeded self.entry.map.now self.exit.0.now }
     {
         let RawVacantEntryMut { map } = self;
@@ -176,17 +176,18 @@ impl<T: Eq + Hash> RawVacantEntryMut<'_, T> {
         }
     }
 
-    /// Puts an element in under its own hash, which is supplied; that it is its own, and that the set lacks the element,
-    /// is required. It is refused, and comes back, as by `insert`.
+    /// Inserts an element under a supplied hash. The hash must be the element's own, and the set must lack the element. It
+    /// is refused if there is no room and no memory is found: then the element comes back with its hash, and the set is
+    /// unchanged.
     pub fn insert_hashed(self, element: Hashed<T>) -> Result<(), NoRoom<Hashed<T>>>
         requires own { hash_of element ≡ own_hash T.hash_input (key_of element) }
         requires lacking { get T.eq self.map.now (key_of element) ≡ None }
-        // Done: one element more.
+        // Done: there is one more element.
         ensures adds { OnOk result (AddsPair T.eq self.entry.map.now self.exit.0.now (key_of element) tt) }
-        // Refused: only at room 0. The element comes back with its hash, and the set is as it was.
+        // Refused: only at room 0. The element comes back with its hash, and the set is unchanged.
         ensures refused { OnErr result (IsRefusedPair T.eq self.entry.map.now self.exit.0.now (key_of element)) }
         ensures handed_back { IfErr result (λ refused. refused.0 ≡ element) }
-        // It grows only for an element that does not fit.
+        // The set grows only for an element that does not fit.
         ensures memory { GrowsAsNeeded self.entry.map.now self.exit.0.now }
     {
         let RawVacantEntryMut { map } = self;

@@ -1,4 +1,4 @@
-//! A `Vec2` from the items of an iterator, and from clones.
+//! A `Vec2` made of the items of an iterator, and of clones.
 ghost use Rattle.std.specs.Prelude.{◌≡◌, ◌-◌, ◌≤◌, length, IfOk, IsOk, OnErr};
 ghost use Rattle.std.specs.List.{AllZip};
 ghost use Rattle.std.specs.Iterator.{IsFiniteIterable, IsFinite, size};
@@ -11,9 +11,9 @@ use starlark_columns::pair::{give_back, with_rows};
 use std::alloc::{AllocError, Global};
 
 impl<A: Drop, B: Drop> Vec2<A, B> {
-    /// Puts the items at the end, in their order. Room for the lower bound of the iterator's `size_hint` is made first.
-    /// Where there is no memory, the list is as it was, or the items that came before fill it; the others are dropped.
-    /// Where there is room for all of them, it is not refused. The iterator must end.
+    /// Appends the items, in their order. Room for the lower bound of the iterator's `size_hint` is made first. If
+    /// there is no memory, the list is unchanged or filled by the first items; the others are dropped. It is never
+    /// refused if there is room for all items. The iterator must end.
     pub fn extend<I: IntoIterator<Item = (A, B)>>(&mut self, iter: I) -> Result<(), AllocError>
         requires { IsFiniteIterable I.into_iter_gives I.IntoIter.can_next I.IntoIter.remaining iter }
         ensures list { Extends I.into_iter_gives I.IntoIter.next_gives I.IntoIter.remaining iter self.old self.new result }
@@ -26,8 +26,8 @@ impl<A: Drop, B: Drop> Vec2<A, B> {
         self.push_items(items)
     }
 
-    /// The items, in their order. The list begins with a capacity of the lower bound of the iterator's `size_hint`.
-    /// Where there is no memory, nothing is made and the items are dropped. Without items it is not refused. The
+    /// A list of the items, in their order. It begins with a capacity of the lower bound of the iterator's `size_hint`.
+    /// If there is no memory, nothing is made and the items are dropped. Without items it is never refused. The
     /// iterator must end.
     pub fn from_iter<I: IntoIterator<Item = (A, B)>>(
         alloc: Global,
@@ -43,7 +43,7 @@ impl<A: Drop, B: Drop> Vec2<A, B> {
         Ok(list)
     }
 
-    // Pushes the items of an iterator.
+    // Appends the items of an iterator.
     fn push_items<I: Iterator<Item = (A, B)>>(&mut self, mut items: I) -> Result<(), AllocError>
         requires can { I.can_next items }
         requires finite { IsFinite (I.remaining items) }
@@ -63,7 +63,7 @@ impl<A: Drop, B: Drop> Vec2<A, B> {
 }
 
 impl<A: Clone, B: Clone> Vec2<A, B> {
-    /// A list of clones of the pairs, whose capacity is their number. Where memory is refused, also to the clone of a
+    /// A list of clones of the pairs, whose capacity is their number. If memory is refused, also to the clone of a
     /// part, nothing is made. Without pairs no memory is needed.
     #[tactic(auto, using(crate::proofs::Pairs::columns))]
     pub fn clone(&self) -> Result<Vec2<A, B>, AllocError>

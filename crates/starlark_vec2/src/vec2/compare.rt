@@ -1,4 +1,4 @@
-//! Equality, hash and printing of a `Vec2`, which see its pairs alone.
+//! Equality, hash and printing of a `Vec2`, all by its pairs alone.
 ghost use Rattle.std.specs.Prelude.{◌&&◌, ◌++◌};
 ghost use Rattle.std.specs.Cmp.{and_per, on_per, and_equiv, on_equiv};
 ghost use Rattle.std.specs.Cmp.Lexicographic.{pointwise, lists_per, lists_equiv};
@@ -27,7 +27,7 @@ impl<A: Hash, B: Hash> Hash for Vec2<A, B> {
 
     ghost respects_eq = { (fed.on_Alike (λ v. v.pairs) (fed.items_Alike (fed.and-Alike (fed.on_Alike (λ p. p.0) (record { fed = A.respects_eq })) (fed.on_Alike (λ p. p.1) (record { fed = B.respects_eq }))))).fed };
 
-    // The length, then each pair's first and second part.
+    // Feeds the length, and then the first and the second part of each pair.
     fn hash<H: Hasher>(&self, state: &mut H) {
         state.write_usize(self.len());
         for (first, second) in self {

@@ -1,4 +1,4 @@
-//! References into a `Vec2`, handed out as `&mut`.
+//! Mutable references into a `Vec2`.
 ghost use Rattle.std.specs.Prelude.{◌≡◌, ◌<◌, ◌^◌, length, slice_get, get_or, Some, None};
 ghost use Rattle.std.specs.Option.{option_map, option_copied_mut};
 ghost use Rattle.std.specs.Borrow.{sem};
@@ -17,7 +17,7 @@ use starlark_columns::pair::second_at;
 use starlark_columns::{Row, Spot};
 
 impl<A, B> Vec2<A, B> {
-    /// The first parts of the pairs, in their order. The list ends with what is left in them.
+    /// The first parts of the pairs, in their order, mutably.
     #[tactic(auto, using(crate::proofs::TwoColumns::firsts_end, crate::proofs::TwoColumns::firsts_are))]
     #[inline]
     pub fn firsts_mut(&mut self) -> &mut [A]
@@ -28,7 +28,7 @@ impl<A, B> Vec2<A, B> {
         self.firsts.items_mut(address, self.len)
     }
 
-    /// The first part of the pair at this index. The list ends with what is left in it.
+    /// The first part of the pair at this index, mutably.
     #[tactic(auto, using(crate::proofs::TwoColumns::in_columns, crate::proofs::TwoColumns::first_end, crate::proofs::TwoColumns::first_is))]
     #[inline]
     pub fn first_at_mut(&mut self, index: usize) -> &mut A
@@ -40,8 +40,8 @@ impl<A, B> Vec2<A, B> {
         self.firsts.item_mut(address, self.len, index)
     }
 
-    /// The pair at this index, to write both parts. The list ends with what is left in them. Rust's is unsafe; here the
-    /// index is proved to be within the length.
+    /// Both parts of the pair at this index, mutably. It is unsafe in Rust; here the index is proved to be within the
+    /// length.
     #[inline]
     pub fn get_unchecked_mut(&mut self, index: usize) -> (&mut A, &mut B)
         requires { index < length self.old.pairs }
@@ -52,8 +52,7 @@ impl<A, B> Vec2<A, B> {
         lend_columns(&mut self.firsts, &mut self.seconds, spot, index)
     }
 
-    /// The pair at this index, where there is one, to write both parts. The list ends with what is left in them, and
-    /// without a pair there it stays as it was.
+    /// Both parts of the pair at this index, mutably, if there is one.
     #[inline]
     pub fn get_mut(&mut self, index: usize) -> Option<(&mut A, &mut B)>
         ensures* writes_back { sem 𝓛 (lends_both_if A.row B.row self.entry index result) }
@@ -69,7 +68,7 @@ impl<A, B> Vec2<A, B> {
 }
 
 impl<K, V, B> Vec2<(K, V), B> {
-    // The right to write the values of the first parts, each a key and a value.
+    // Lends the values of the first parts, each of which is a key and a value.
     #[inline]
     fn lend_firsts(&mut self) -> Loan<'_, K, V>
         ensures* writes_back { sem 𝓛 (firsts_follow K.row V.row B.row self.entry result.tie) }
@@ -81,8 +80,8 @@ impl<K, V, B> Vec2<(K, V), B> {
         Loan::behind(&mut self.firsts, spot, len)
     }
 
-    /// The first parts of the pairs, each a key and a value, as `(&K, &mut V)`. The list ends with the values that are
-    /// left in them, and all else stays.
+    /// The first parts of the pairs, each of which is a key and a value, as `(&K, &mut V)`. Nothing but these values
+    /// can change.
     #[tactic(auto, using(crate::proofs::Pairs::values))]
     #[inline]
     pub fn iter_firsts_mut(&mut self) -> PairsMut<'_, K, V>
@@ -95,7 +94,7 @@ impl<K, V, B> Vec2<(K, V), B> {
     }
 }
 
-// The item at this index of the column in front.
+// The item at this index of the column in front, mutably.
 #[inline]
 fn lend_front<T>(column: &mut Row<T>, spot: Spot<T>, index: usize) -> &mut T
     requires at { spot.address.at ≡ column.old.at }
@@ -106,7 +105,7 @@ fn lend_front<T>(column: &mut Row<T>, spot: Spot<T>, index: usize) -> &mut T
     column.get_mut(spot.address, index)
 }
 
-// The item at this index of the column behind, by the spot of the block.
+// The item at this index of the second column, mutably. The address is computed from the spot of the block.
 #[inline]
 fn lend_behind<T, B>(column: &mut Row<T>, spot: Spot<B>, index: usize) -> &mut T
     requires at { IsBehind B.row T.row spot column.old.at }
@@ -117,7 +116,7 @@ fn lend_behind<T, B>(column: &mut Row<T>, spot: Spot<B>, index: usize) -> &mut T
     column.get_mut(second_at(spot), index)
 }
 
-// The item at this index of the column behind, where it is one of the first `len`.
+// The item at this index of the second column, mutably, if the index is below `len`.
 #[tactic(auto, using(std::proofs::lemmas::Option::slice_get_past))]
 #[inline]
 fn lend_behind_if<T, B>(
@@ -138,7 +137,7 @@ fn lend_behind_if<T, B>(
     }
 }
 
-// The items at this index of two columns of a block, the second in front.
+// The items at this index of both columns of a block, mutably. The second column is in front.
 #[inline]
 fn lend_columns<'a, A, B>(
     firsts: &'a mut Row<A>,

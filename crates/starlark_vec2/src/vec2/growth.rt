@@ -1,10 +1,11 @@
-//! How far a list of pairs grows.
+//! The capacity that a list of pairs grows to.
 ghost use Rattle.std.specs.Prelude.{◌≡◌, ◌+◌, ◌*◌, ◌-◌, ◌^◌, ◌≤◌, max, min, MatchOption};
 
-// No growth gives a capacity below this.
+// The least capacity that a list grows to.
 const LEAST_CAPACITY: usize = 4;
 
-// The capacity that makes room for `additional` more pairs than `len`, where that number can be written.
+// The capacity after growth that makes room for `additional` more pairs than `len`. `None` if the needed capacity is
+// above the greatest `usize`.
 pub(super) fn grown(len: usize, capacity: usize, additional: usize) -> Option<usize>
     ensures { MatchOption result (2 ^ 64 ≤ len + additional) (λ n. n ≡ max (len + additional) (max 4 (min (2 * capacity) (2 ^ 64 - 1)))) }
 {

@@ -1,4 +1,4 @@
-//! The iterator of a `Vec2` that owns its pairs. It is seen as the list of what it has left.
+//! The iterator of a `Vec2` that owns its pairs. The model is the list of the pairs that are left.
 ghost use Rattle.std.specs.Prelude.{◌≡◌, ◌<◌, ◌^◌, length, IfSome, Some};
 ghost use Rattle.std.specs.Iterator.{UpTo, at_most};
 ghost use Rattle.std.specs.Iterator.SizeHint.{IsWithinCount};
@@ -11,14 +11,14 @@ use std::alloc::Global;
 use std::iter::FusedIterator;
 use std::marker::Model;
 
-/// The pairs, by value. What is left when it is dropped is dropped with it.
+/// The pairs, by value. Dropping it drops the pairs that are left.
 pub struct IntoIter<A, B> {
     firsts: Row<A>,
     seconds: Row<B>,
-    // Where the pairs that are left begin and end.
+    // The indices between which the pairs are left.
     from: usize,
     to: usize,
-    // Where the block begins, and how many indices either column has.
+    // The address of the block, and how many cells each column has.
     spot: Spot<B>,
     alloc: Global,
     block: Block<B, A>,

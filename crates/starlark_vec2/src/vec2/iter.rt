@@ -1,4 +1,4 @@
-//! The iterator of a `Vec2` that lends its pairs. It is seen as the list of what it has left.
+//! The iterator of a `Vec2` that lends its pairs. The model is the list of the pairs that are left.
 ghost use Rattle.std.specs.Prelude.{◌≡◌, ◌<◌, ◌^◌, length, zip, ⊤, IfSome, Some};
 ghost use Rattle.std.specs.Iterator.{UpTo, at_most};
 ghost use Rattle.std.specs.Iterator.SizeHint.{IsWithinCount};

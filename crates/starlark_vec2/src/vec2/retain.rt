@@ -6,8 +6,9 @@ ghost use Rattle.starlark_vec2.specs.Retain.{TakesBoth, CalledAtBoth};
 use super::Vec2;
 
 impl<A: Drop, B: Drop> Vec2<A, B> {
-    /// Keeps the pairs at which the closure answers true, as it leaves them, in their order. It is called once a pair,
-    /// from the front, its state carried on; that it may be called so is required. The capacity stays.
+    /// Keeps the pairs for which the closure returns true, as it leaves them, in their order. It is called once for
+    /// each pair, from the front, each time in the state that the call before left. It must be possible to call it so.
+    /// The capacity stays.
     #[inline]
     pub fn retain<F: FnMut(&mut A, &mut B) -> bool>(&mut self, keep: F)
         requires { TakesInTurn (CalledAtBoth F.FnMut) (TakesBoth F.FnMut) keep self.old.pairs }
@@ -24,7 +25,7 @@ impl<A: Drop, B: Drop> Vec2<A, B> {
     }
 }
 
-// Moves the pairs that are kept to the front, and answers how many they are.
+// Moves the pairs that are kept to the front, and returns their number.
 fn sieve<A, B, F: FnMut(&mut A, &mut B) -> bool>(
     firsts: &mut [A],
     seconds: &mut [B],

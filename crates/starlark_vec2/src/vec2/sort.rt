@@ -1,4 +1,4 @@
-//! `Vec2::sort_by`: positions are sorted, and then the pairs are moved in place.
+//! `Vec2::sort_by`: an array of indices is sorted, and then the pairs are moved in place.
 ghost use Rattle.std.specs.Prelude.{◌≡◌, ◌≤◌, length, zip, IfOk, IsOk, OnOk, OnErr, IsPermutation};
 ghost use Rattle.std.specs.List.{range_with_len};
 ghost use Rattle.starlark_vec2.specs.Sort.{CanCompare, Sorts, ComparesAt, SortsPositions, PutsInOrder};
@@ -8,10 +8,10 @@ use std::alloc::{AllocError, Global};
 use std::cmp::Ordering;
 
 impl<A, B> Vec2<A, B> {
-    /// Sorts the pairs; those that compare as equal keep their order. All memory is had before a pair moves; where it
-    /// is refused, the list is as it was. Up to one pair no memory is needed. Rust's states no stability. In any case
-    /// the list has the same pairs, and the same capacity. Required is that the closure may be called at any two of the
-    /// pairs, in each state that its calls leave.
+    /// Sorts the pairs. Those that compare as equal keep their order, which Rust's does not state. If memory is
+    /// refused, the list is unchanged, since all of it is allocated before a pair moves. Up to one pair needs no
+    /// memory. Whatever the closure returns, the list has the same pairs, and the same capacity. The closure must be
+    /// one that may be called with any two of the pairs, in each state that its calls leave.
     pub fn sort_by<F: FnMut((&A, &B), (&A, &B)) -> Ordering>(
         &mut self,
         compare: F,
@@ -36,7 +36,7 @@ impl<A, B> Vec2<A, B> {
         Ok(())
     }
 
-    // The positions of the pairs, in the order that the comparator gives the pairs.
+    // The indices of the pairs, in the order in which the comparator sorts the pairs.
     fn sorted_positions<F: FnMut((&A, &B), (&A, &B)) -> Ordering>(
         &self,
         mut compare: F,
@@ -56,7 +56,7 @@ impl<A, B> Vec2<A, B> {
         Ok(order)
     }
 
-    // Compares the pairs at two positions. A position past the end comes after all others.
+    // Compares the pairs at two indices. An index past the end is sorted behind all others.
     #[inline]
     fn compare_at<F: FnMut((&A, &B), (&A, &B)) -> Ordering>(
         &self,
@@ -75,7 +75,6 @@ impl<A, B> Vec2<A, B> {
     }
 }
 
-// The numbers below `n`, in their order.
 #[tactic(auto, using(std::proofs::lemmas::List::length_push, crate::proofs::Positions::range_with_len_more))]
 fn positions(alloc: Global, n: usize) -> Result<Vec<usize>, AllocError>
     ensures { IfOk result (λ v. v.items ≡ range_with_len 0 n) }
@@ -87,7 +86,7 @@ fn positions(alloc: Global, n: usize) -> Result<Vec<usize>, AllocError>
     Ok(all)
 }
 
-// Moves the pairs in place, so that each index has the pair whose position stands there in the order.
+// Moves the pairs in place, so that each index `i` has the pair that was at `order[i]`.
 fn put_in_order<A, B>(firsts: &mut [A], seconds: &mut [B], mut order: Vec<usize>)
     requires even { length firsts.old ≡ length seconds.old }
     requires positions { IsPermutation (range_with_len 0 (length firsts.old)) order.items }
@@ -99,7 +98,8 @@ fn put_in_order<A, B>(firsts: &mut [A], seconds: &mut [B], mut order: Vec<usize>
         if from == index {
             index += 1;
         } else {
-            // The pair that belongs to `from` comes there, and what stood there goes where that pair was.
+            // The pair that belongs at `from` is at `next`. The swaps put it there, and store in `order[index]` where the
+            // pair that was at `from` is now.
             let next = order[from];
             firsts.swap(from, next);
             seconds.swap(from, next);

@@ -1,4 +1,5 @@
-//! `Vec2::sort_pairs_with_moves_by`: the pairs are sorted behind their indices, which then tell where they went.
+//! `Vec2::sort_pairs_with_moves_by`: the pairs are sorted together with their old indices, which then say where each
+//! pair went.
 ghost use Rattle.std.specs.Prelude.{◌≡◌, ◌≤◌, ◌^◌, [], length, map, IfOk, OnOk, OnErr, IsPermutation};
 ghost use Rattle.std.specs.List.{enumerate_from, range_with_len};
 ghost use Rattle.starlark_vec2.specs.Sort.{Moves, PutsInOrder, SortsNumbered};
@@ -9,9 +10,9 @@ use std::alloc::AllocError;
 use std::cmp::Ordering;
 
 impl<A, B> Vec2<A, B> {
-    /// Sorts the pairs as `sort_pairs_by` does, and answers for each index the one to which its pair went. The closure
-    /// sees each pair behind the index where it stood. It is refused where memory is not found, and where indices do not
-    /// fit in 32 bits; the list is then as it was.
+    /// Sorts the pairs as `sort_pairs_by` does, and returns the new index of each pair, by its old index. The closure
+    /// sees each pair after its old index. It is refused if there is no memory, or if indices do not fit in 32 bits;
+    /// the list is then unchanged.
     pub fn sort_pairs_with_moves_by<F: FnMut(&(u32, (A, B)), &(u32, (A, B))) -> Ordering>(
         &mut self,
         compare: F,
@@ -35,7 +36,7 @@ impl<A, B> Vec2<A, B> {
         Ok(to)
     }
 
-    // Moves the pairs to a vector, in their order, each behind its index. The capacity stays.
+    // Moves the pairs to a vector, in their order, each after its index. The capacity stays.
     fn take_numbered(&mut self) -> Result<Vec<(u32, (A, B))>, AllocError>
         requires few { length self.old.pairs ≤ 2 ^ 32 }
         ensures pairs { IfOk result (λ taken. taken.items ≡ enumerate_from 0 self.old.pairs) }
@@ -50,7 +51,7 @@ impl<A, B> Vec2<A, B> {
         Ok(taken)
     }
 
-    // Moves the pairs of a vector to a list that has none, and room for them. The capacity stays.
+    // Moves the pairs of a vector to this list, which must have no pairs and enough room. The capacity stays.
     fn put_numbered(&mut self, numbered: Vec<(u32, (A, B))>)
         requires empty { self.old.pairs ≡ [] }
         requires room { length numbered.items ≤ self.old.capacity }
@@ -65,7 +66,7 @@ impl<A, B> Vec2<A, B> {
     }
 }
 
-// Notes for each index that stands before an item where the item stands now.
+// Stores at each old index in `to` the index that its item has in `numbered`.
 fn note_moves<X>(numbered: &[(u32, X)], to: &mut [u32])
     requires indices { IsPermutation (range_with_len 0 (length to.old)) (map (λ p. p.0) numbered.now) }
     requires few { length to.old ≤ 2 ^ 32 }

@@ -1,4 +1,4 @@
-//! `Vec2::sort_pairs_by`: the pairs move to one block, are sorted there, and move back.
+//! `Vec2::sort_pairs_by`: the pairs move to one vector, are sorted there, and move back.
 ghost use Rattle.std.specs.Prelude.{◌≡◌, ◌≤◌, [], length, IfOk, OnOk, OnErr, IsPermutation};
 ghost use Rattle.starlark_vec2.specs.PairList.{with_pairs};
 ghost use Rattle.starlark_vec2.specs.Sort.{SortsItems};
@@ -8,10 +8,10 @@ use std::alloc::AllocError;
 use std::cmp::Ordering;
 
 impl<A, B> Vec2<A, B> {
-    /// Sorts the pairs by a closure that may be called at any two pairs; those that compare as equal keep their order.
-    /// The parts of a pair lie side by side meanwhile, and no comparison looks for them elsewhere: a long list is
-    /// sorted in less time than by `sort_by`. Where memory is refused, the list is as it was. In any case the list has
-    /// the same pairs, and the same capacity.
+    /// Sorts the pairs by a closure that may be called with any two pairs. Those that compare as equal keep their
+    /// order. While they are sorted, both parts of a pair are stored side by side, so that a long list takes less time
+    /// than by `sort_by`. If memory is refused, the list is unchanged. Whatever the closure returns, the list has the
+    /// same pairs, and the same capacity.
     pub fn sort_pairs_by<F: FnMut(&(A, B), &(A, B)) -> Ordering>(
         &mut self,
         compare: F,
@@ -43,7 +43,7 @@ impl<A, B> Vec2<A, B> {
         Ok(taken)
     }
 
-    // Moves the pairs of a vector to a list that has none, and room for them. The capacity stays.
+    // Moves the pairs of a vector to this list, which must have no pairs and enough room. The capacity stays.
     fn put_pairs(&mut self, pairs: Vec<(A, B)>)
         requires empty { self.old.pairs ≡ [] }
         requires room { length pairs.items ≤ self.old.capacity }

@@ -8,8 +8,8 @@ use super::VecMap;
 use std::alloc::AllocError;
 
 impl<K: Clone, V: Clone> VecMap<K, V> {
-    /// A map of clones of the entries under the same hashes, whose capacity is their number. Where memory is refused,
-    /// also to the clone of a key or a value, nothing is made. Without entries no memory is needed.
+    /// A map of clones of the entries with the same hashes, whose capacity is their number. If memory is refused, also
+    /// to the clone of a key or a value, nothing is made. Without entries no memory is needed.
     pub fn clone(&self) -> Result<Self, AllocError>
         ensures entries { IfOk result (λ m. AllZip (IsEntryClone K.is_clone V.is_clone) self.now.entries m.entries) }
         ensures capacity { IfOk result (λ m. m.capacity ≡ length self.now.entries) }

@@ -1,4 +1,4 @@
-//! A `VecMap`'s entries compared and hashed, item by item.
+//! Comparison and hash of the entries of a `VecMap`, in their order.
 ghost use Rattle.std.specs.Prelude.{◌≡◌, fold};
 ghost use Rattle.starlark_hash.specs.Compare.{same_ordered, ordered_feed};
 
@@ -7,7 +7,7 @@ use crate::columns::hash_columns;
 use std::hash::{Hash, Hasher};
 
 impl<K, V> VecMap<K, V> {
-    /// Whether both maps have as many entries and, item by item, the same hash, equal keys and equal values.
+    /// Whether both maps have the same number of entries and, item by item, the same hash, equal keys and equal values.
     pub fn eq_ordered(&self, other: &Self) -> bool
     where
         K: PartialEq,
@@ -18,7 +18,7 @@ impl<K, V> VecMap<K, V> {
             && self.columns.firsts() == other.columns.firsts()
     }
 
-    /// Writes each entry's hash as one number of 32 bits, and then what its value writes; no length, and no key.
+    /// Feeds the hash of each entry as one number of 32 bits, and then its value. It feeds no length and no key.
     pub fn hash_ordered<H: Hasher>(&self, state: &mut H)
     where
         V: Hash,

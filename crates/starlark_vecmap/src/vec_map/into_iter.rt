@@ -1,4 +1,5 @@
-//! The iterators that own the entries of a `VecMap`. Each is seen as the list of what it has left, and drops it.
+//! The iterators that own the entries of a `VecMap`. The model of each is the list of what is left; dropping it drops
+//! that.
 ghost use Rattle.std.specs.Prelude.{◌≡◌, length, map, IfSome, Some};
 ghost use Rattle.std.specs.Iterator.{UpTo, at_most};
 ghost use Rattle.std.specs.Iterator.SizeHint.{IsWithinCount};

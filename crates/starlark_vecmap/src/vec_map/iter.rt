@@ -1,4 +1,4 @@
-//! The iterators that lend the entries of a `VecMap` by `&`. Each is seen as the list of what it has left.
+//! The iterators that lend the entries of a `VecMap` by `&`. The model of each is the list of what is left.
 ghost use Rattle.std.specs.Prelude.{◌≡◌, length, map, ⊤, IfSome, Some};
 ghost use Rattle.std.specs.Iterator.{UpTo, at_most};
 ghost use Rattle.std.specs.Iterator.SizeHint.{IsWithinCount};

@@ -1,4 +1,4 @@
-//! References into a `VecMap`, handed out as `&mut`, and the walks that write its values.
+//! Mutable references into a `VecMap`, and the iterators that lend its values mutably.
 ghost use Rattle.std.specs.Prelude.{◌≡◌, ◌<◌, ◌^◌, length, map, slice_get, Some};
 ghost use Rattle.std.specs.Borrow.{sem};
 ghost use Rattle.std.specs.Map.{values_of};
@@ -10,8 +10,8 @@ use super::{IterMut, ValuesMut, VecMap};
 use starlark_hash::{Hashed, StarlarkHashValue};
 
 impl<K, V> VecMap<K, V> {
-    /// The entry at this index, to write the value. The map ends with what is left in it, and all else stays. Rust's is
-    /// unsafe; here the index is proved to be within the length.
+    /// The entry at this index, with its value mutable. All else stays. It is unsafe in Rust; here the index is proved
+    /// to be within the length.
     #[inline]
     pub fn get_unchecked_mut(&mut self, index: usize) -> (Hashed<&K>, &mut V)
         requires { index < length self.old.entries }
@@ -23,8 +23,7 @@ impl<K, V> VecMap<K, V> {
         (Hashed::new_unchecked(hash, &pair.0), &mut pair.1)
     }
 
-    /// The keys and values of the entries, in their order, to write the values. The map ends with what is left in them;
-    /// keys, hashes and capacity stay.
+    /// The keys and values of the entries, in their order, with the values mutable. Keys, hashes and capacity stay.
     #[inline]
     pub fn iter_mut(&mut self) -> IterMut<'_, K, V>
         ensures* writes_back { sem 𝓛 (values_follow K.row V.row self.entry result.1) }
@@ -34,9 +33,8 @@ impl<K, V> VecMap<K, V> {
         self.columns.iter_firsts_mut()
     }
 
-    /// The values of the entries, in their order, to write them. The map ends with what is left in them; keys, hashes
-    /// and capacity stay.
-    #[tactic(auto, using(crate::proofs::ValuesWritten::written))]
+    /// The values of the entries, in their order, mutably. Keys, hashes and capacity stay.
+    #[tactic(auto, using(crate::proofs::WrittenValues::written))]
     #[inline]
     pub fn values_mut(&mut self) -> ValuesMut<'_, K, V>
         ensures* writes_back { sem 𝓛 (values_follow K.row V.row self.entry result.1) }

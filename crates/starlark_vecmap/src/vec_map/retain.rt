@@ -6,8 +6,9 @@ ghost use Rattle.starlark_vecmap.specs.EntryList.{entry_of};
 use super::VecMap;
 
 impl<K: Drop, V: Drop> VecMap<K, V> {
-    /// Keeps the entries at which the closure answers true, with the value that it leaves, in their order. It is called
-    /// once an entry, from the front, its state carried on; that it may be called so is required. The capacity stays.
+    /// Keeps the entries for which the closure returns true, with the values that it leaves, in their order. It is
+    /// called once for each entry, from the front, each time in the state that the call before left. It must be
+    /// possible to call it so. The capacity stays.
     pub fn retain<F: FnMut(&K, &mut V) -> bool>(&mut self, mut keep: F)
         requires { TakesInTurn (CalledAtEntry F.FnMut) (TakesEntry F.FnMut) keep self.old.entries }
         ensures entries { Retains (CalledAtEntry F.FnMut) keep self.old.entries self.new.entries }

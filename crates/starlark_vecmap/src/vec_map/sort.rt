@@ -10,8 +10,8 @@ use std::alloc::AllocError;
 use std::cmp::Ordering;
 
 impl<K, V> VecMap<K, V> {
-    /// Sorts the entries by key; those with equal keys keep their order. Where the keys ascend already, it returns at
-    /// once and needs no memory. Where memory is refused, the map is as it was.
+    /// Sorts the entries by key. Those with equal keys keep their order. If the keys ascend already, it returns at once
+    /// and needs no memory. If memory is refused, the map is unchanged.
     pub fn sort_keys(&mut self) -> Result<(), AllocError>
     where
         K: Ord,
@@ -25,7 +25,7 @@ impl<K, V> VecMap<K, V> {
         self.sort_columns()
     }
 
-    // The part of `sort_keys` that asks for memory.
+    // Sorts the entries of a map whose keys do not ascend. It asks for memory.
     fn sort_columns(&mut self) -> Result<(), AllocError>
     where
         K: Ord,
@@ -39,9 +39,9 @@ impl<K, V> VecMap<K, V> {
         )
     }
 
-    /// Sorts the entries as `sort_keys` does, and answers for each index the one to which its entry went. It asks for
-    /// memory where the keys ascend already, too. It is refused where memory is not found, and where indices do not fit
-    /// in 32 bits; the map is then as it was.
+    /// Sorts the entries as `sort_keys` does, and returns the new index of each entry, by its old index. It needs
+    /// memory even if the keys ascend already. It is refused if there is no memory, or if indices do not fit in 32
+    /// bits; the map is then unchanged.
     pub fn sort_keys_with_moves(&mut self) -> Result<Vec<u32>, AllocError>
     where
         K: Ord,
@@ -56,7 +56,7 @@ impl<K, V> VecMap<K, V> {
         )
     }
 
-    /// Whether the keys ascend. Equal keys may stand side by side.
+    /// Whether the keys ascend. Equal keys may be next to each other.
     #[inline]
     pub fn is_sorted_by_key(&self) -> bool
     where

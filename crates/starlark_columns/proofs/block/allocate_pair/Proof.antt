@@ -1,5 +1,6 @@
--- `allocate_pair` asks for a block of two arrays, and cuts it into the cells of both and the right to give it back. Assumes `Logic`.
-use Rattle.starlark_columns.proofs.Walking.{◌≡◌, ℕ, ◌+◌, ◌*◌, ◌<◌, ◌^◌, true, false, [], ◌∷◌, refl, sym, ap, ◌∙◌, lit<, w64, IfOk, Ok, Err, fsep, froom, flft, Incl-trans, SProp, ◌⊑◌, fact, tables, inst_fn, bare, Ty, named, ty_array, a_type, dcons, dnil, Val, vint, vptr, vstruct, vcons, vnil, WT, capped, size-raw, align-raw, Wp, after_seq, at_return, alloc_all, pass_all, free_all, look_at, get, get_in, get_tag, sets, sets_last, lands_as, env, After, any_q, ‵, raw, ◌⊛◌, later, at_ret, ◌$◌, ◌∵◌, !, qed, by, move, keep, use0, use1, use2, split, split3, join, rewrite, fsplit, fjoin, feq_i, await, live, vrt, in_variant, whole, agg, stop, fld, lit, no_more, and_then, of_opd, first, switches_on, exec, returns, enter, param, bounded, uint_vals, uint_Tells, RattleType, owns, Ptr, block_ptr, shr_vals, shr_Tells, types_at, heard, nothing, Tuple, tuple_type, calls_at, framed, walk_of, Al, token, Answer-typed, Takes, at_takes, Answered, Takes-goes, Takes-gives, answers, El, elτ, HasLayout, after, head, arm_body, proved, leaves, type_size, ok_of, R, empties, tells, spent, drops, drops_go, toks}
+-- `allocate_pair` allocates a block of two arrays, and splits it into the cells of both and the right to deallocate it.
+-- Assumes `Logic`.
+use Rattle.starlark_columns.proofs.LogicNames.{◌≡◌, ℕ, ◌+◌, ◌*◌, ◌<◌, ◌^◌, true, false, [], ◌∷◌, refl, sym, ap, ◌∙◌, lit<, w64, IfOk, Ok, Err, fsep, froom, flft, Incl-trans, SProp, ◌⊑◌, fact, tables, inst_fn, bare, Ty, named, ty_array, a_type, dcons, dnil, Val, vint, vptr, vstruct, vcons, vnil, WT, capped, size-raw, align-raw, Wp, after_seq, at_return, alloc_all, pass_all, free_all, look_at, get, get_in, get_tag, sets, sets_last, lands_as, env, After, any_q, ‵, raw, ◌⊛◌, later, at_ret, ◌$◌, ◌∵◌, !, qed, by, move, keep, use0, use1, use2, split, split3, join, rewrite, fsplit, fjoin, feq_i, await, live, vrt, in_variant, whole, agg, stop, fld, lit, no_more, and_then, of_opd, first, switches_on, exec, returns, enter, param, bounded, uint_vals, uint_Tells, RattleType, owns, Ptr, block_ptr, shr_vals, shr_Tells, types_at, heard, nothing, Tuple, tuple_type, calls_at, framed, walk_of, Al, token, Answer-typed, Takes, at_takes, Answered, Takes-goes, Takes-gives, answers, El, elτ, HasLayout, after, head, arm_body, proved, leaves, type_size, ok_of, R, empties, tells, spent, drops, drops_go, toks}
 use Rattle.core.specs.contracts as core
 use Rattle.starlark_columns.proofs.RowValues.{word, mark, marked, as_struct, declared, address_made, AddressOf, RowOf, PairClaimOf, no_block, refused, cut_in_two, some_weight, both_within, two_arrays, pair_ty, second_offset, skipped, rooms_rejoin, here, row_of_room}
 use Rattle.starlark_columns.specs.contracts.block.allocate_pair as contract

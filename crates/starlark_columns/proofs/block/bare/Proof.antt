@@ -1,5 +1,5 @@
--- `bare` makes cells of no bytes out of nothing. Assumes `Logic`.
-use Rattle.starlark_columns.proofs.Walking.{◌≡◌, ℕ, ◌*◌, [], ◌∷◌, refl, w64, ftrue, flft, ◌⊑◌, fact, inst_fn, a_type, Val, vint, vstruct, vcons, vnil, alloc_all, pass_all, free_all, look_at, get, sets, ‵, raw, ◌⊛◌, ◌$◌, ◌∵◌, !, qed, by, move, keep, use0, use2, split, agg, stop, from, addr, and_then, no_more, returns, enter, layouts, uint_vals, uint_Tells, owns, Ptr, block_ptr, types_at, heard, Tuple, walk_of, El, proved, leaves, type_size, R, tells, spent, drops, drops_go}
+-- `bare` makes cells that take no bytes out of nothing. Assumes `Logic`.
+use Rattle.starlark_columns.proofs.LogicNames.{◌≡◌, ℕ, ◌*◌, [], ◌∷◌, refl, w64, ftrue, flft, ◌⊑◌, fact, inst_fn, a_type, Val, vint, vstruct, vcons, vnil, alloc_all, pass_all, free_all, look_at, get, sets, ‵, raw, ◌⊛◌, ◌$◌, ◌∵◌, !, qed, by, move, keep, use0, use2, split, agg, stop, from, addr, and_then, no_more, returns, enter, layouts, uint_vals, uint_Tells, owns, Ptr, block_ptr, types_at, heard, Tuple, walk_of, El, proved, leaves, type_size, R, tells, spent, drops, drops_go}
 use Rattle.starlark_columns.proofs.RowValues.{word, mark, address_made, AddressOf, RowOf, as_tuple, here, row_of_none}
 use Rattle.starlark_columns.specs.contracts.block.bare as contract
 use Rattle.starlark_columns.proofs.block.bare as routine

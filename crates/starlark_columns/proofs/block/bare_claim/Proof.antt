@@ -1,5 +1,5 @@
--- `bare_claim` is a right to nothing. Assumes `Logic`.
-use Rattle.starlark_columns.proofs.Walking.{◌≡◌, ℕ, ◌*◌, [], ◌∷◌, refl, sym, w64, flft, ◌⊑◌, fact, inst_fn, bare, ty_array, a_type, named, dcons, dnil, vint, vptr, alloc_all, pass_all, free_all, look_at, get, sets, ‵, raw, ◌⊛◌, ◌$◌, ◌∵◌, !, qed, by, move, keep, split, rewrite, agg, and_then, no_more, returns, enter, lone, param, bounded, uint_vals, uint_Tells, RattleType, owns, Ptr, shr_vals, shr_Tells, types_at, heard, nothing, walk_of, proved, leaves, type_size, tells, spent, drops, drops_go, toks}
+-- `bare_claim` makes a right to nothing. Assumes `Logic`.
+use Rattle.starlark_columns.proofs.LogicNames.{◌≡◌, ℕ, ◌*◌, [], ◌∷◌, refl, sym, w64, flft, ◌⊑◌, fact, inst_fn, bare, ty_array, a_type, named, dcons, dnil, vint, vptr, alloc_all, pass_all, free_all, look_at, get, sets, ‵, raw, ◌⊛◌, ◌$◌, ◌∵◌, !, qed, by, move, keep, split, rewrite, agg, and_then, no_more, returns, enter, lone, param, bounded, uint_vals, uint_Tells, RattleType, owns, Ptr, shr_vals, shr_Tells, types_at, heard, nothing, walk_of, proved, leaves, type_size, tells, spent, drops, drops_go, toks}
 use Rattle.starlark_columns.proofs.RowValues.{word, word_good, mark, marked, address_told, AddressOf, ClaimOf, no_weight}
 use Rattle.starlark_columns.specs.contracts.block.bare_claim as contract
 use Rattle.starlark_columns.proofs.block.bare_claim as routine

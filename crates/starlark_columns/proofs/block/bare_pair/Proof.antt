@@ -1,5 +1,5 @@
--- `bare_pair` makes cells of no bytes out of nothing, and a right to nothing. Assumes `Logic`.
-use Rattle.starlark_columns.proofs.Walking.{◌≡◌, ℕ, ◌+◌, ◌*◌, [], ◌∷◌, refl, sym, arith, w64, fsep, flft, ◌⊑◌, fact, inst_fn, bare, a_type, named, dcons, dnil, Val, vint, vptr, vstruct, vcons, vnil, alloc_all, pass_all, free_all, look_at, get, sets, ‵, raw, ◌⊛◌, ◌$◌, ◌∵◌, !, qed, by, move, keep, use0, use1, split, fjoin, feq_i, rewrite, agg, stop, from, addr, and_then, no_more, returns, enter, lone, param, bounded, uint_vals, uint_Tells, RattleType, owns, Ptr, block_ptr, shr_vals, shr_Tells, types_at, heard, nothing, Tuple, tuple_type, walk_of, El, proved, leaves, type_size, R, tells, spent, drops, drops_go, toks}
+-- `bare_pair` makes cells that take no bytes, and a right to nothing, out of nothing. Assumes `Logic`.
+use Rattle.starlark_columns.proofs.LogicNames.{◌≡◌, ℕ, ◌+◌, ◌*◌, [], ◌∷◌, refl, sym, arith, w64, fsep, flft, ◌⊑◌, fact, inst_fn, bare, a_type, named, dcons, dnil, Val, vint, vptr, vstruct, vcons, vnil, alloc_all, pass_all, free_all, look_at, get, sets, ‵, raw, ◌⊛◌, ◌$◌, ◌∵◌, !, qed, by, move, keep, use0, use1, split, fjoin, feq_i, rewrite, agg, stop, from, addr, and_then, no_more, returns, enter, lone, param, bounded, uint_vals, uint_Tells, RattleType, owns, Ptr, block_ptr, shr_vals, shr_Tells, types_at, heard, nothing, Tuple, tuple_type, walk_of, El, proved, leaves, type_size, R, tells, spent, drops, drops_go, toks}
 use Rattle.starlark_columns.proofs.RowValues.{word, mark, marked, as_struct, declared, address_made, AddressOf, RowOf, PairClaimOf, no_weight, two_arrays, rooms_rejoin, skipped, here, row_of_none}
 use Rattle.starlark_columns.specs.contracts.block.bare_pair as contract
 use Rattle.starlark_columns.proofs.block.bare_pair as routine

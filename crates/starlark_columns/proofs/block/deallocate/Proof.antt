@@ -1,5 +1,6 @@
--- `deallocate` makes one room of the bare cells, and hands it back with the right to do so. Assumes `Logic`.
-use Rattle.starlark_columns.proofs.Walking.{◌≡◌, ℕ, ◌*◌, ◌<◌, ◌^◌, List, [], ◌∷◌, refl, sym, ap, subst, ◌∙◌, arith, w64, froom, flft, Incl-trans, SProp, ◌⊑◌, fact, tables, inst_fn, Ty, named, ty_unit, ty_array, Val, vunit, vint, vptr, has_ty, WT, capped_fits, align, capped, alloc_all, pass_all, free_all, look_at, get, get_in, is, sets, lands_last, env, ‵, raw, ◌⊛◌, given, some, later, at_ret, ◌$◌, ◌∵◌, !, qed, by, move, keep, use1, group, split, join, pick, learn, rewrite, fsplit, feq_i, await, whole, sub, stop, fld, unit_lit, size_word, align_word, no_more, and_then, of_opd, bin, first, blocks, exec, returns, enter, param, uint_vals, uint_Tells, RattleType, owns, Ptr, block_ptr, ptr_val, shr_vals, shr_Tells, types_at, heard, nothing, calls_at_last, framed, walk_of, Al, token, Gives, at_gives, Gives-goes, Gives-Gives, El, elτ, after, uncapped, block_ty, block_size, block_align, args, proved, leaves, type_size, T, R, empties, spent, drops, drops_go, toks}
+-- `deallocate` joins the empty cells to the memory of the block, and gives it back with the right to do so. Assumes
+-- `Logic`.
+use Rattle.starlark_columns.proofs.LogicNames.{◌≡◌, ℕ, ◌*◌, ◌<◌, ◌^◌, List, [], ◌∷◌, refl, sym, ap, subst, ◌∙◌, arith, w64, froom, flft, Incl-trans, SProp, ◌⊑◌, fact, tables, inst_fn, Ty, named, ty_unit, ty_array, Val, vunit, vint, vptr, has_ty, WT, capped_fits, align, capped, alloc_all, pass_all, free_all, look_at, get, get_in, is, sets, lands_last, env, ‵, raw, ◌⊛◌, given, some, later, at_ret, ◌$◌, ◌∵◌, !, qed, by, move, keep, use1, group, split, join, pick, learn, rewrite, fsplit, feq_i, await, whole, sub, stop, fld, unit_lit, size_word, align_word, no_more, and_then, of_opd, bin, first, blocks, exec, returns, enter, param, uint_vals, uint_Tells, RattleType, owns, Ptr, block_ptr, ptr_val, shr_vals, shr_Tells, types_at, heard, nothing, calls_at_last, framed, walk_of, Al, token, Gives, at_gives, Gives-goes, Gives-Gives, El, elτ, after, uncapped, block_ty, block_size, block_align, args, proved, leaves, type_size, T, R, empties, spent, drops, drops_go, toks}
 use Rattle.starlark_columns.proofs.RowValues.{word, word_good, mark, address_told, mark_told, AddressOf, RowOf, ClaimOf, claim_owned, some_weight, RoomAt, room_of_row}
 use Rattle.starlark_columns.specs.contracts.block.deallocate as contract
 use Rattle.starlark_columns.proofs.block.deallocate as routine

@@ -1,5 +1,6 @@
--- `deallocate_pair` makes the block's room of the bare cells of both rows, and hands it back with the right to do so. Assumes `Logic`.
-use Rattle.starlark_columns.proofs.Walking.{◌≡◌, ℕ, ◌+◌, ◌*◌, ◌<◌, List, [], ◌∷◌, refl, sym, ap, subst, ◌∙◌, w64, Fml, fsep, froom, flft, Incl-trans, SProp, apply∗, ◌⊑◌, fact, tables, inst_fn, bare, Ty, named, ty_unit, ty_array, a_type, dcons, dnil, Val, vunit, vint, vptr, has_ty, WT, capped, size-raw, align-raw, alloc_all, pass_all, free_all, look_at, get, get_in, is, sets, lands_last, env, sem, ‵, raw, ◌⊛◌, given, some, later, at_ret, ◌$◌, ◌∵◌, !, qed, by, move, keep, use1, use2, group, split, join, pick, learn, rewrite, fsplit, fjoin, feq_i, await, whole, sub, stop, fld, unit_lit, no_more, and_then, of_opd, first, blocks, exec, returns, enter, param, bounded, uint_vals, uint_Tells, RattleType, owns, Ptr, block_ptr, ptr_val, shr_vals, shr_Tells, types_at, heard, nothing, calls_at_last, framed, walk_of, Al, token, Gives, at_gives, Gives-goes, Gives-Gives, El, elτ, after, HasLayout, proved, leaves, type_size, T, R, empties, spent, drops, drops_go, toks}
+-- `deallocate_pair` joins the empty cells of both rows to the memory of the block, and gives it back with the right to
+-- do so. Assumes `Logic`.
+use Rattle.starlark_columns.proofs.LogicNames.{◌≡◌, ℕ, ◌+◌, ◌*◌, ◌<◌, List, [], ◌∷◌, refl, sym, ap, subst, ◌∙◌, w64, Fml, fsep, froom, flft, Incl-trans, SProp, apply∗, ◌⊑◌, fact, tables, inst_fn, bare, Ty, named, ty_unit, ty_array, a_type, dcons, dnil, Val, vunit, vint, vptr, has_ty, WT, capped, size-raw, align-raw, alloc_all, pass_all, free_all, look_at, get, get_in, is, sets, lands_last, env, sem, ‵, raw, ◌⊛◌, given, some, later, at_ret, ◌$◌, ◌∵◌, !, qed, by, move, keep, use1, use2, group, split, join, pick, learn, rewrite, fsplit, fjoin, feq_i, await, whole, sub, stop, fld, unit_lit, no_more, and_then, of_opd, first, blocks, exec, returns, enter, param, bounded, uint_vals, uint_Tells, RattleType, owns, Ptr, block_ptr, ptr_val, shr_vals, shr_Tells, types_at, heard, nothing, calls_at_last, framed, walk_of, Al, token, Gives, at_gives, Gives-goes, Gives-Gives, El, elτ, after, HasLayout, proved, leaves, type_size, T, R, empties, spent, drops, drops_go, toks}
 use Rattle.starlark_columns.proofs.RowValues.{word, word_good, mark, address_told, mark_told, AddressOf, RowOf, PairClaimOf, some_weight, two_arrays, pair_ty, rooms_rejoin, RoomAt, room_of_row}
 use Rattle.starlark_columns.specs.contracts.block.deallocate_pair as contract
 use Rattle.starlark_columns.proofs.block.deallocate_pair as routine

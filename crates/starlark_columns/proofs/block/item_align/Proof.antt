@@ -1,5 +1,5 @@
--- `item_align` is the machine's own number. Assumes `Logic`.
-use Rattle.starlark_columns.proofs.Walking.{ℕ, ◌≡◌, ◌^◌, List, [], ◌∷◌, refl, w64, ftrue, flft, inst_fn, a_type, Val, vint, capped_fits, capped, alloc_all, pass_all, free_all, look_at, sets, ‵, raw, ◌⊛◌, ◌$◌, ◌∵◌, !, qed, by, move, keep, fjoin, feq_i, flt_i, split, align_word, of_opd, returns, enter, param, layouts, nothing, walk_of, proved, leaves, tells}
+-- `item_align` returns the machine's number. Assumes `Logic`.
+use Rattle.starlark_columns.proofs.LogicNames.{ℕ, ◌≡◌, ◌^◌, List, [], ◌∷◌, refl, w64, ftrue, flft, inst_fn, a_type, Val, vint, capped_fits, capped, alloc_all, pass_all, free_all, look_at, sets, ‵, raw, ◌⊛◌, ◌$◌, ◌∵◌, !, qed, by, move, keep, fjoin, feq_i, flt_i, split, align_word, of_opd, returns, enter, param, layouts, nothing, walk_of, proved, leaves, tells}
 use Rattle.starlark_columns.proofs.RowValues.{type_align}
 use Rattle.starlark_columns.specs.contracts.block.item_align as contract
 use Rattle.starlark_columns.proofs.block.item_align as routine

@@ -1,5 +1,6 @@
--- `known` tells that the block of a right begins where the right is to. Assumes `Logic`.
-use Rattle.starlark_columns.proofs.Walking.{◌≡◌, ℕ, ◌*◌, ◌<◌, [], ◌∷◌, refl, sym, Fml, ftrue, flft, guard_i, ◌⊑◌, fact, fact_use, inst_fn, Ty, ty_array, a_type, alloc_all, pass_all, free_all, look_at, get, sets, ‵, raw, ◌⊛◌, given, ◌$◌, ◌∵◌, !, qed, by, move, keep, use1, split, learn, rewrite, fsplit, fjoin, sem, of_opd, returns, enter, layouts, owns, Ptr, Testable, types_at, heard, walk_of, El, R, elτ, proved, leaves, type_size, ghosts, tells, spent, drops, drops_go, bare}
+-- `known` learns from the right to a block of `Global` that the block's address may be compared with null. Assumes
+-- `Logic`.
+use Rattle.starlark_columns.proofs.LogicNames.{◌≡◌, ℕ, ◌*◌, ◌<◌, [], ◌∷◌, refl, sym, Fml, ftrue, flft, guard_i, ◌⊑◌, fact, fact_use, inst_fn, Ty, ty_array, a_type, alloc_all, pass_all, free_all, look_at, get, sets, ‵, raw, ◌⊛◌, given, ◌$◌, ◌∵◌, !, qed, by, move, keep, use1, split, learn, rewrite, fsplit, fjoin, sem, of_opd, returns, enter, layouts, owns, Ptr, Testable, types_at, heard, walk_of, El, R, elτ, proved, leaves, type_size, ghosts, tells, spent, drops, drops_go, bare}
 use Rattle.std.proofs.GlobalToken.{dealloc_token-Testable}
 use Rattle.std.specs.contracts.alloc.Global as heap
 use Rattle.starlark_columns.proofs.RowValues.{mark, mark_told, ClaimOf, some_weight}

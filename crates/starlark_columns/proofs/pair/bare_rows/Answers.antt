@@ -1,5 +1,5 @@
 use Rattle.std.proofs.Common.{rules}
-use Rattle.starlark_columns.proofs.Fronts.{front_empties}
+use Rattle.starlark_columns.proofs.ItemsAtFront.{front_empties}
 use Rattle.starlark_columns.proofs.pair.bare_rows.Goals as goal
 
 pub returns : goal.returns

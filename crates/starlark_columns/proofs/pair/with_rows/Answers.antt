@@ -1,7 +1,7 @@
 use Rattle.std.proofs.Common.{rules}
 use denote.Memory.{lone}
 use Rattle.starlark_columns.proofs.Layouts.{skipped_exact}
-use Rattle.starlark_columns.proofs.Fronts.{front_empties}
+use Rattle.starlark_columns.proofs.ItemsAtFront.{front_empties}
 use Rattle.starlark_columns.proofs.pair.with_rows.Goals as goal
 
 pub returns : goal.returns

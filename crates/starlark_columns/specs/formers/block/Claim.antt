@@ -1,4 +1,4 @@
--- `Claim` as a type that may name the type that it is about. It holds none of its values.
+-- `Claim` as a type constructor, so that a recursive type may use it. It holds no value of its parameter.
 use Rattle.std.specs.Prelude.{ℕ, ◌*◌}
 use mathlib.Core.Bool.{cond}
 use lib.Dec.{eqb}

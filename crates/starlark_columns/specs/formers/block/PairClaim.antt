@@ -1,4 +1,5 @@
--- `PairClaim` as a type that may name, as that of its second cells, the type that holds it. It holds none of its values.
+-- `PairClaim` as a type constructor in its second cells, so that a recursive type may use it. It holds no value of its
+-- parameter.
 use Rattle.std.specs.Prelude.{ℕ}
 use mathlib.Core.Path.{refl}
 use mathlib.Core.Former.{Former, const, this, via}

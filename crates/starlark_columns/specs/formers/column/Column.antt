@@ -1,4 +1,4 @@
--- `Column` as a type that may hold the type that holds it, by its cells.
+-- `Column` as a type constructor in its cells, so that a recursive type may use it.
 use Rattle.std.specs.Prelude.{ℕ, List, [], Option}
 use Rattle.std.specs.Coded.{coded_option}
 use mathlib.Core.Path.{refl, sym, ◌∙◌}
@@ -35,7 +35,7 @@ the_weighed w = w_list (row_is.weighed_cell w)
 pub the_empty : List (Option ⊥)
 the_empty = []
 
--- ---- the fields that hold no item are the same at any type
+-- ---- the fields without items, at another type
 abbrev pub address_at : (X Y : Type 0) → Address X → Address Y
 address_at X Y b = record { at = b.at }
 

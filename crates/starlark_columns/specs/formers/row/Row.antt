@@ -1,4 +1,4 @@
--- `Row` as a type that may hold the type that holds it, by its cells.
+-- `Row` as a type constructor in its cells, so that a recursive type may use it.
 use Rattle.std.specs.Prelude.{◌≡◌, ◌+◌, ◌*◌, ◌^◌, List, [], ◌∷◌, length, Option, Some, None}
 use Rattle.std.specs.Mem.{type_size}
 use Rattle.std.specs.Coded.{coded_option, option_cases}

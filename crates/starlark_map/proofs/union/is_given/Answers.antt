@@ -2,7 +2,7 @@ use Rattle.starlark_hash.proofs.Common.{◌≡◌, true, ap, is_lt, Equal, Less,
 use Rattle.starlark_hash.specs.HashValue.{hash_of}
 use Rattle.starlark_hash.specs.Entries.{entry_key, is_under}
 use Rattle.starlark_map.specs.SortedUnion.{shown_element}
-use Rattle.starlark_map.proofs.Given.{holds-tie, lacks-next, lacks-next-above}
+use Rattle.starlark_map.proofs.UnionLookup.{holds-tie, lacks-next, lacks-next-above}
 use Rattle.starlark_map.proofs.union.is_given.Goals as goal
 
 pub returns-in-None : goal.returns-in-None

@@ -1,8 +1,8 @@
 use Rattle.starlark_hash.proofs.Common.{◌≡◌, ◌∷◌, true, subst, rules, arith, common_steps}
 use Rattle.starlark_hash.specs.Sort.{Ascends}
 use Rattle.starlark_map.specs.SortedUnion.{drop_while, comes_first, is_passed, shown_element}
-use Rattle.starlark_map.proofs.Given.{Ascends-left}
-use Rattle.starlark_map.proofs.Rising.{step-other, step-own, taken-first}
+use Rattle.starlark_map.proofs.UnionLookup.{Ascends-left}
+use Rattle.starlark_map.proofs.AscendingUnion.{step-other, step-own, taken-first}
 use Rattle.starlark_map.proofs.union.next_before.Goals as goal
 
 pub returns-then-not-is_given : goal.returns-then-not-is_given

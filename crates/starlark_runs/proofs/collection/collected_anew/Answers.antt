@@ -1,7 +1,7 @@
 use Rattle.starlark_hash.proofs.Common.{◌≤◌, length, refl, sym, subst, ◌∙◌, IfOk-weaker}
 use Rattle.starlark_small.proofs.Growing.{stepped_from}
-use Rattle.starlark_runs.proofs.Anew.{emptied, capacity_anew, indexed_anew}
-use Rattle.starlark_runs.proofs.Collected.{walked-single}
+use Rattle.starlark_runs.proofs.NewMapMemory.{emptied, capacity_anew, indexed_anew}
+use Rattle.starlark_runs.proofs.EntryCollection.{walked-single}
 use Rattle.starlark_runs.proofs.collection.collected_anew.Goals as goal
 
 pub returns-clause-entries : goal.returns-clause-entries

@@ -1,6 +1,6 @@
 use Rattle.starlark_hash.proofs.Common.{[], ◌∷◌, IfOk-weaker}
 use Rattle.starlark_small.specs.Collect.{insert_all, own_entry}
-use Rattle.starlark_runs.proofs.Inserted.{entries-inserted}
+use Rattle.starlark_runs.proofs.InsertionRoom.{entries-inserted}
 use Rattle.starlark_runs.proofs.collection.written_in_order.Goals as goal
 
 pub returns : goal.returns

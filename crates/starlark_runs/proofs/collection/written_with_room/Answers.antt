@@ -1,6 +1,6 @@
 use Rattle.starlark_hash.proofs.Common.{Ok}
 use Rattle.starlark_small.specs.Map.{own_hashed}
-use Rattle.starlark_runs.proofs.Inserted.{HasRoom, HasRoom-inserted, IsOk-HasRoom}
+use Rattle.starlark_runs.proofs.InsertionRoom.{HasRoom, HasRoom-inserted, IsOk-HasRoom}
 use Rattle.starlark_runs.proofs.collection.written_with_room.Goals as goal
 
 pub returns-clause-succeeds : goal.returns-clause-succeeds

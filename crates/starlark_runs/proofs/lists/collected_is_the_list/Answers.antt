@@ -1,5 +1,5 @@
 use Rattle.starlark_hash.proofs.Common.{[]}
-use Rattle.starlark_runs.proofs.Collected.{insert_all-single}
+use Rattle.starlark_runs.proofs.EntryCollection.{insert_all-single}
 use Rattle.starlark_runs.proofs.lists.collected_is_the_list.Goals as goal
 
 pub returns : goal.returns

@@ -1,4 +1,4 @@
-use Rattle.starlark_runs.proofs.Matching.{equal_iff_matches}
+use Rattle.starlark_runs.proofs.EqualityByMatches.{equal_iff_matches}
 use Rattle.starlark_runs.proofs.lists.equal_by_matches.Goals as goal
 
 pub returns : goal.returns

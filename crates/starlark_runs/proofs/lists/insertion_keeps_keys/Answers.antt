@@ -1,5 +1,5 @@
 use Rattle.starlark_hash.specs.Entries.{match_of}
-use Rattle.starlark_runs.proofs.Inserted.{keys_of-placed}
+use Rattle.starlark_runs.proofs.InsertionRoom.{keys_of-placed}
 use Rattle.starlark_runs.proofs.lists.insertion_keeps_keys.Goals as goal
 
 pub returns : goal.returns

@@ -1,4 +1,4 @@
-use Rattle.starlark_runs.proofs.Ordered.{same_entries-same_ordered}
+use Rattle.starlark_runs.proofs.OrderedEquality.{same_entries-same_ordered}
 use Rattle.starlark_runs.proofs.lists.ordered_implies_equal.Goals as goal
 
 pub returns : goal.returns

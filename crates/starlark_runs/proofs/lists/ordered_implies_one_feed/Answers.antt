@@ -1,4 +1,4 @@
-use Rattle.starlark_runs.proofs.Ordered.{ordered_feed-same_ordered}
+use Rattle.starlark_runs.proofs.OrderedEquality.{ordered_feed-same_ordered}
 use Rattle.starlark_runs.proofs.lists.ordered_implies_one_feed.Goals as goal
 
 pub returns : goal.returns

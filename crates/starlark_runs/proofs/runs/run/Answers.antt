@@ -1,5 +1,5 @@
 use Rattle.starlark_hash.proofs.Common.{◌+◌, ◌*◌, ◌≡◌, ◌≤◌, length, max}
-use Rattle.starlark_runs.proofs.Determined.{Run-determined}
+use Rattle.starlark_runs.proofs.Determinism.{Run-determined}
 use Rattle.starlark_runs.proofs.MemoryLemmas.{EndsWith-last, Run-of_memory}
 use Rattle.starlark_runs.specs.Memory.{memory_of}
 use Rattle.starlark_runs.specs.Run.{Shows}

@@ -5,8 +5,8 @@ use Rattle.starlark_runs.specs.Memory.{HasMemory, Memory, MemoryRun, memory_of}
 use Rattle.starlark_runs.specs.Run.{CanShow, Shows}
 use Rattle.starlark_runs.proofs.runs.run_in.Given as goal
 
--- the map has some memory, and whatever the commands that are left give from there on, put after the replies so far, is a
--- run of all
+-- The map has some memory. The replies so far, followed by whatever replies the remaining commands may have from there on,
+-- are the replies of a run of all commands.
 abbrev pub invariant-loop-command : goal.invariant-loop-command
 invariant-loop-command g l =
     record {

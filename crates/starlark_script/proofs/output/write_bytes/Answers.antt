@@ -1,6 +1,6 @@
 use Rattle.starlark_hash.proofs.Common.{◌++◌, take}
 use Rattle.std.proofs.KnownBytes.{Appends-trans}
-use Rattle.starlark_script.proofs.Writes.{moves_front}
+use Rattle.starlark_script.proofs.TextWrites.{moves_front}
 use Rattle.starlark_script.proofs.output.write_bytes.Goals as goal
 
 pub loop-rest-preserved : goal.loop-rest-preserved

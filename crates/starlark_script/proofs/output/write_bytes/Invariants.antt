@@ -1,4 +1,4 @@
--- What is gone from the rest was appended.
+-- The bytes that are no longer in the rest were appended.
 use Rattle.starlark_hash.proofs.Common.{◌≡◌, ℕ, List, ◌++◌, length, Appends}
 use Rattle.starlark_script.proofs.output.write_bytes.Given as goal
 

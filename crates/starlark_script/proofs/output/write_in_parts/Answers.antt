@@ -2,7 +2,7 @@ use Rattle.starlark_hash.proofs.Common.{◌≡◌, Ok, rules, refl, sym, ap, sub
 use Rattle.std.specs.Fmt.{with_newline, WritesOnOk}
 use Rattle.std.proofs.KnownBytes.{Appends-of_writes}
 use Rattle.starlark_script.specs.declared.output.Output.{Output}
-use Rattle.starlark_script.proofs.Writes.{IfSome-weaker}
+use Rattle.starlark_script.proofs.TextWrites.{IfSome-weaker}
 use Rattle.starlark_script.proofs.output.write_in_parts.Goals as goal
 
 pub returns-in-Ok-clause-ok : goal.returns-in-Ok-clause-ok

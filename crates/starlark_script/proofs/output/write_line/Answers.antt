@@ -2,7 +2,7 @@ use Rattle.starlark_hash.proofs.Common.{◌≡◌, ◌∙◌, ap, subst, List, �
 use Rattle.core.proofs.fmt.Output.{contents_after_writes}
 use Rattle.std.specs.Fmt.{with_newline, WritesInCalls}
 use Rattle.arrayvec.specs.ArrayString.{ArrayString}
-use Rattle.starlark_script.proofs.Writes.{IfSome-weaker, OnOk-weaker, IfSome-known}
+use Rattle.starlark_script.proofs.TextWrites.{IfSome-weaker, OnOk-weaker, IfSome-known}
 use Rattle.starlark_script.proofs.output.write_line.Goals as goal
 
 pub returns-in-Ok-clause-ok : goal.returns-in-Ok-clause-ok

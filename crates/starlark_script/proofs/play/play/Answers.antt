@@ -1,6 +1,6 @@
 use Rattle.starlark_hash.proofs.Common.{◌≡◌, ◌+◌, Err, ap, sym, ◌∙◌, prepend_known}
 use Rattle.std.proofs.lemmas.Result.{err_from_is_err_and}
-use Rattle.starlark_script.proofs.Going.{going-start, going-kept, going-end, going-long, going-bad, going-stop, going-step, leads-line}
+use Rattle.starlark_script.proofs.ScriptProgress.{going-start, going-kept, going-end, going-long, going-bad, going-stop, going-step, leads-line}
 use Rattle.starlark_script.proofs.Results.{IfOk-weaker}
 use Rattle.starlark_script.proofs.play.play.Goals as goal
 

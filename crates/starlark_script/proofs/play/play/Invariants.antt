@@ -1,6 +1,6 @@
 use Rattle.starlark_hash.proofs.Common.{prepend_known}
 use Rattle.starlark_script.specs.ShownEntries.{entries_of}
-use Rattle.starlark_script.proofs.Going.{Going}
+use Rattle.starlark_script.proofs.ScriptProgress.{Going}
 use Rattle.starlark_script.proofs.play.play.Given as goal
 
 abbrev pub invariant-loop-i : goal.invariant-loop-i

@@ -1,5 +1,5 @@
 use Rattle.starlark_hash.proofs.Common.{arith}
-use Rattle.starlark_table.proofs.Marked.{marked-window, more_ahead, passed-window}
+use Rattle.starlark_table.proofs.LentSlots.{marked-window, more_ahead, passed-window}
 use Rattle.starlark_table.proofs.TagCount.{long_tags}
 use Rattle.starlark_table.proofs.ahead.first_full.Goals as goal
 

@@ -1,7 +1,7 @@
 use Rattle.starlark_hash.proofs.Common.{◌<◌, length, arith, ◌∙◌}
-use Rattle.starlark_table.proofs.Filling.{filled-by_tag}
-use Rattle.starlark_table.proofs.Tagged.{empty-by_tag}
-use Rattle.starlark_table.proofs.Emptying.{emptied_again, emptied-next}
+use Rattle.starlark_table.proofs.FilledSlots.{filled-by_tag}
+use Rattle.starlark_table.proofs.SlotTags.{empty-by_tag}
+use Rattle.starlark_table.proofs.EmptiedSlots.{emptied_again, emptied-next}
 use Rattle.starlark_table.proofs.clear.empty_all.Goals as goal
 use Rattle.starlark_table.proofs.clear.empty_all.Goals.{then-tags-slot, else-tags-slot}
 

@@ -1,4 +1,4 @@
-use Rattle.starlark_table.proofs.Emptying.{Emptied}
+use Rattle.starlark_table.proofs.EmptiedSlots.{Emptied}
 use Rattle.starlark_table.proofs.clear.empty_all.Given as goal
 
 abbrev pub invariant-loop-slot : goal.invariant-loop-slot

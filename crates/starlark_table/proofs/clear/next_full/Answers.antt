@@ -1,6 +1,6 @@
 use Rattle.starlark_hash.proofs.Common.{refl, arith, rules, ap, is_some}
 use Rattle.starlark_table.proofs.FullBits.{window_next}
-use Rattle.starlark_table.proofs.Marked.{marked-window, passed-window}
+use Rattle.starlark_table.proofs.LentSlots.{marked-window, passed-window}
 use Rattle.starlark_table.proofs.clear.next_full.Goals as goal
 
 pub returns-then-full-ne0 : goal.returns-then-full-ne0

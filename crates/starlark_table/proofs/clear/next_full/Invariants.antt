@@ -1,5 +1,5 @@
 use Rattle.starlark_hash.proofs.Common.{◌-◌, length}
-use Rattle.starlark_table.proofs.Marked.{PassedOver}
+use Rattle.starlark_table.proofs.LentSlots.{PassedOver}
 use Rattle.starlark_table.proofs.clear.next_full.Given as goal
 
 abbrev pub invariant-windows : goal.invariant-windows

@@ -1,8 +1,8 @@
 use Rattle.starlark_hash.proofs.Common.{◌<◌, length, None, Some, arith, refl, sym, ap, ◌∙◌, set-get_or}
 use Rattle.starlark_table.specs.Layout.{at, slot_tag}
-use Rattle.starlark_table.proofs.Filling.{filled-by_tag}
-use Rattle.starlark_table.proofs.Tagged.{empty-by_tag}
-use Rattle.starlark_table.proofs.Cloning.{cloned-next}
+use Rattle.starlark_table.proofs.FilledSlots.{filled-by_tag}
+use Rattle.starlark_table.proofs.SlotTags.{empty-by_tag}
+use Rattle.starlark_table.proofs.ClonedSlots.{cloned-next}
 use Rattle.starlark_table.proofs.growth.clone_members.Goals as goal
 use Rattle.starlark_table.proofs.growth.clone_members.Goals.{then-tags-slot+in_ok-item, else-tags-slot}
 

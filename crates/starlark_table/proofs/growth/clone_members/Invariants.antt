@@ -1,4 +1,4 @@
-use Rattle.starlark_table.proofs.Cloning.{Cloned}
+use Rattle.starlark_table.proofs.ClonedSlots.{Cloned}
 use Rattle.starlark_table.proofs.growth.clone_members.Given as goal
 
 abbrev pub invariant-loop-slot : goal.invariant-loop-slot

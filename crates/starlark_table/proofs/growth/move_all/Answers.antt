@@ -1,6 +1,6 @@
 use Rattle.starlark_hash.proofs.Common.{length, arith, ◌∙◌, ap, length-append, length_permutation, IsPermutation-refl, IsPermutation-trans}
 use Rattle.starlark_table.specs.Table.{filled}
-use Rattle.starlark_table.proofs.Filling.{all_empty}
+use Rattle.starlark_table.proofs.FilledSlots.{all_empty}
 use Rattle.starlark_table.proofs.FullBits.{tagged_from-start, tagged_from-later}
 use Rattle.starlark_table.proofs.Load.{filled-replicate}
 use Rattle.starlark_table.proofs.growth.move_all.Goals as goal

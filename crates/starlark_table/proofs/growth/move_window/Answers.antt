@@ -2,7 +2,7 @@ use Rattle.starlark_hash.proofs.Common.{arith, ◌++◌, refl, length-set, IsPer
 use Rattle.starlark_table.specs.Table.{filled}
 use Rattle.starlark_table.proofs.FullBits.{window_opens}
 use Rattle.starlark_table.proofs.Load.{bag-member_moved, empty_slot-while_moving}
-use Rattle.starlark_table.proofs.MovingWindows.{emptying-begins, emptying-finds, emptying-goes_on, emptying-ends}
+use Rattle.starlark_table.proofs.GroupDrain.{emptying-begins, emptying-finds, emptying-goes_on, emptying-ends}
 use Rattle.starlark_table.proofs.growth.move_window.Goals as goal
 
 pub members-init : goal.members-init

@@ -1,7 +1,7 @@
 use Rattle.starlark_hash.proofs.Common.{◌≡◌, ◌++◌, length, IsPermutation}
 use Rattle.starlark_table.specs.Table.{filled}
 use Rattle.starlark_table.specs.Layout.{InPlace, IsTagged, TellsFar}
-use Rattle.starlark_table.proofs.MovingWindows.{EmptyingWindow}
+use Rattle.starlark_table.proofs.GroupDrain.{EmptyingWindow}
 use Rattle.starlark_table.proofs.growth.move_window.Given as goal
 
 abbrev pub invariant-members : goal.invariant-members

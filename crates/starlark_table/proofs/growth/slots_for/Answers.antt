@@ -4,11 +4,11 @@ use Rattle.std.proofs.lemmas.Nat.{pow_pos}
 use Rattle.starlark_table.specs.Growth.{limit, most_for}
 use Rattle.starlark_table.proofs.growth.slots_for.Goals as goal
 
--- where so many slots hold too few, twice as many do not hold too many
+-- if `count` slots are too few, twice as many are not too many
 twice : (count needed eighths : ℕ) → count ≡ 8 * eighths → limit count < needed → limit (count * 2) ≤ most_for needed
 twice count needed eighths is less = omega (arith, is, less)
 
--- and no fewer slots, eight doubled some times, hold so many
+-- no smaller number of slots, eight times a power of two, holds as many members
 fewest-twice : (count needed d k : ℕ) → count ≡ 8 * 2 ^ d → limit count < needed → needed ≤ limit (8 * 2 ^ k) → count * 2 ≤ 8 * 2 ^ k
 fewest-twice count needed d k is less enough =
     let low = λ (few : k ≤ d). pow-le-pow_right {n = 2} (omega arith) few in

@@ -2,18 +2,18 @@ use Rattle.starlark_hash.proofs.Common.{◌∙◌, ap, ◌<◌, length, arith, r
 use Rattle.starlark_table.specs.Layout.{tag}
 use Rattle.starlark_table.proofs.TagCount.{long_tags}
 use Rattle.std.proofs.lemmas.Fn.{called_at}
-use Rattle.starlark_table.proofs.Looking.{Looking, left_to_look, same-by_test, other-by_test, looking_begins, looking_within, looking_ends, looking_near, looking_goes_on, looking_full, looking_asks, looking_accepts, looking_nearer, looking_refuses, looking_skips}
+use Rattle.starlark_table.proofs.SearchState.{Looking, left_to_look, same-by_test, other-by_test, looking_begins, looking_within, looking_ends, looking_near, looking_goes_on, looking_full, looking_asks, looking_accepts, looking_nearer, looking_refuses, looking_skips}
 use Rattle.starlark_table.proofs.probe.find_slot.Given.{Over}
 use Rattle.starlark_table.proofs.probe.find_slot.Goals as goal
 use Rattle.starlark_table.proofs.probe.find_slot.Goals.{After-slots_with-same, After-slots_up_to_empty-same, then-same-ne0+else-is, else-same-ne0+else-ends_at_home, else-is-via-then-is+else-eq, else-is-via-else-is, else-is-2-via-then-is-2+else-eq-2, else-is-2-via-else-is-2}
 
--- at the window of the home
+-- the search begins at the group of the home
 begins : (g : Over) (c : After-slots_with-same g) → Looking g.F.FnMut c.args.hash c.args.tags.now c.args.slots.now c.args.eq c.home-start.result c.home-start.result c.slots_with-same.result c.args.eq
 begins g c =
     let some : 0 < length c.args.slots.now = omega (arith, c.requires.free.1) in
     search (looking_begins g.F.FnMut, some)
 
--- at the next window, where this one has no bit left
+-- the search goes on to the next group when this one has no bit left
 goes_on : (g : Over) (c : After-slots_up_to_empty-same g)
     → Looking g.F.FnMut c.args.hash c.args.tags.now c.args.slots.now c.args.eq c.window_after-start.result c.window_after-start.result c.slots_up_to_empty-same.result c.windows.eq
     × (left_to_look c.args.hash c.args.slots.now c.window_after-start.result c.window_after-start.result < left_to_look c.args.hash c.args.slots.now c.windows.start c.windows.slot)

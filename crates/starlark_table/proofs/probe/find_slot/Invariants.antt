@@ -1,4 +1,4 @@
-use Rattle.starlark_table.proofs.Looking.{Looking, left_to_look}
+use Rattle.starlark_table.proofs.SearchState.{Looking, left_to_look}
 use Rattle.starlark_table.proofs.probe.find_slot.Given as goal
 
 abbrev pub invariant-windows : goal.invariant-windows

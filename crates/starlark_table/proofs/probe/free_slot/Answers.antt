@@ -1,6 +1,6 @@
 use Rattle.starlark_hash.proofs.Common.{◌-◌, length, arith}
 use Rattle.starlark_table.proofs.Circle.{distance-below}
-use Rattle.starlark_table.proofs.Windows.{passed, first_empty, full_up_to}
+use Rattle.starlark_table.proofs.ProbeSequence.{passed, first_empty, full_up_to}
 use Rattle.starlark_table.proofs.probe.free_slot.Goals as goal
 
 pub windows-smaller : goal.windows-smaller

@@ -1,5 +1,5 @@
 use Rattle.starlark_hash.proofs.Common.{◌≡◌, ◌+◌, ◌-◌, length, arith}
-use Rattle.starlark_table.proofs.Near.{told-put}
+use Rattle.starlark_table.proofs.OverflowFilter.{told-put}
 use Rattle.starlark_table.proofs.probe.put.Goals as goal
 
 pub returns-clause-told : goal.returns-clause-told

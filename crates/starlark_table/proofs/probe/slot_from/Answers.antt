@@ -1,6 +1,6 @@
 use Rattle.starlark_hash.proofs.Common.{length, arith}
 use Rattle.starlark_table.proofs.Circle.{distance-self}
-use Rattle.starlark_table.proofs.Windows.{first_empty, full_up_to}
+use Rattle.starlark_table.proofs.ProbeSequence.{first_empty, full_up_to}
 use Rattle.starlark_table.proofs.probe.slot_from.Goals as goal
 
 pub returns : goal.returns

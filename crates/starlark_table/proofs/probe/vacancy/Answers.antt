@@ -1,7 +1,7 @@
 use Rattle.starlark_hash.proofs.Common.{arith, ◌≡◌, ◌+◌, [], count_trailing_zeros}
 use Rattle.starlark_table.specs.Layout.{IsVacancy}
 use Rattle.starlark_table.specs.Table.{holders_in}
-use Rattle.starlark_table.proofs.Vacant.{vacant_at_home}
+use Rattle.starlark_table.proofs.Vacancy.{vacant_at_home}
 use Rattle.starlark_table.proofs.probe.vacancy.Given.{Over}
 use Rattle.starlark_table.proofs.probe.vacancy.Goals as goal
 use Rattle.starlark_table.proofs.probe.vacancy.Goals.{Else-empty-eq0}

@@ -1,6 +1,6 @@
 use Rattle.starlark_hash.proofs.Common.{◌∙◌, IsPermutation-refl, IsPermutation-trans}
-use Rattle.starlark_table.proofs.Closing.{closing-begins, closing-slot_in, closing-smaller, closing-moved, swapped_slots}
-use Rattle.starlark_table.proofs.Near.{told-moved}
+use Rattle.starlark_table.proofs.BackwardShift.{closing-begins, closing-slot_in, closing-smaller, closing-moved, swapped_slots}
+use Rattle.starlark_table.proofs.OverflowFilter.{told-moved}
 use Rattle.starlark_table.proofs.remove.close_gap.Goals as goal
 
 pub loop-slot-init : goal.loop-slot-init

@@ -1,7 +1,7 @@
 use Rattle.starlark_hash.proofs.Common.{◌≡◌, ℕ, ◌-◌, length, IsPermutation}
 use Rattle.starlark_table.specs.Table.{filled}
 use Rattle.starlark_table.specs.Layout.{distance, IsTagged, TellsFar}
-use Rattle.starlark_table.proofs.Closing.{Closing}
+use Rattle.starlark_table.proofs.BackwardShift.{Closing}
 use Rattle.starlark_table.proofs.remove.close_gap.Given as goal
 
 abbrev pub invariant-loop-slot : goal.invariant-loop-slot

@@ -1,7 +1,7 @@
 use Rattle.starlark_hash.proofs.Common.{arith}
 use Rattle.starlark_table.specs.Follow.{CanMove}
-use Rattle.starlark_table.proofs.Closing.{full_in_range, taken_and_written}
-use Rattle.starlark_table.proofs.Tagged.{tagged-swapped}
+use Rattle.starlark_table.proofs.BackwardShift.{full_in_range, taken_and_written}
+use Rattle.starlark_table.proofs.SlotTags.{tagged-swapped}
 use Rattle.starlark_table.proofs.remove.move_into.Goals as goal
 
 pub moved-requires : goal.moved-requires

@@ -1,8 +1,8 @@
 use Rattle.starlark_hash.proofs.Common.{length, refl, arith}
 use Rattle.starlark_table.proofs.Circle.{distance-below}
-use Rattle.starlark_table.proofs.Closing.{passed-begins, passed-next, passed-all}
-use Rattle.starlark_table.proofs.Tagged.{empty-by_tag, full-by_tag}
-use Rattle.starlark_table.proofs.Filling.{filled-by_tag}
+use Rattle.starlark_table.proofs.BackwardShift.{passed-begins, passed-next, passed-all}
+use Rattle.starlark_table.proofs.SlotTags.{empty-by_tag, full-by_tag}
+use Rattle.starlark_table.proofs.FilledSlots.{filled-by_tag}
 use Rattle.starlark_table.proofs.remove.next_across.Goals as goal
 
 pub crosses-requires-clause-full : goal.crosses-requires-clause-full

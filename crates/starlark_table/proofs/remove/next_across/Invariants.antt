@@ -1,6 +1,6 @@
 use Rattle.starlark_hash.proofs.Common.{◌-◌, length}
 use Rattle.starlark_table.specs.Layout.{distance}
-use Rattle.starlark_table.proofs.Closing.{Passed}
+use Rattle.starlark_table.proofs.BackwardShift.{Passed}
 use Rattle.starlark_table.proofs.remove.next_across.Given as goal
 
 abbrev pub invariant-loop-next : goal.invariant-loop-next

@@ -1,8 +1,8 @@
 use Rattle.starlark_hash.proofs.Common.{inl, inr, refl, arith, length-set, IsPermutation-cons, IsPermutation-trans}
-use Rattle.starlark_table.proofs.Tagged.{tag-below, tag-member, tagged-changed}
-use Rattle.starlark_table.proofs.Closing.{full_in_range, gap_left}
-use Rattle.starlark_table.proofs.Near.{in_place-near, told-taken}
-use Rattle.starlark_table.proofs.Passing.{in_place-not_passed}
+use Rattle.starlark_table.proofs.SlotTags.{tag-below, tag-member, tagged-changed}
+use Rattle.starlark_table.proofs.BackwardShift.{full_in_range, gap_left}
+use Rattle.starlark_table.proofs.OverflowFilter.{in_place-near, told-taken}
+use Rattle.starlark_table.proofs.UncrossedSlot.{in_place-not_passed}
 use Rattle.starlark_table.proofs.Load.{another_empty_slot}
 use Rattle.starlark_table.proofs.Bag.{filled-set_none}
 use Rattle.starlark_table.proofs.remove.take_out.Goals as goal

@@ -1,6 +1,6 @@
 use Rattle.starlark_hash.proofs.Common.{arith, ◌∙◌, None}
 use Rattle.starlark_table.proofs.FullBits.{tagged_from-later}
-use Rattle.starlark_table.proofs.ReplacingWindows.{within-join, within-all, can_replace-after, alike_behind}
+use Rattle.starlark_table.proofs.GroupReplacement.{within-join, within-all, can_replace-after, alike_behind}
 use Rattle.starlark_table.proofs.replace.replace_items.Goals as goal
 
 pub replace_window-start-requires-clause-callable : goal.replace_window-start-requires-clause-callable

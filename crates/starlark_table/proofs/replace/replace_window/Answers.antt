@@ -1,7 +1,7 @@
 use Rattle.starlark_hash.proofs.Common.{refl}
 use Rattle.std.proofs.lemmas.Fn.{called_at}
 use Rattle.starlark_table.proofs.FullBits.{window_opens}
-use Rattle.starlark_table.proofs.ReplacingWindows.{replacing-begins, replacing-finds, replacing-asks, replacing-goes_on, replacing-ends}
+use Rattle.starlark_table.proofs.GroupReplacement.{replacing-begins, replacing-finds, replacing-asks, replacing-goes_on, replacing-ends}
 use Rattle.starlark_table.proofs.replace.replace_window.Goals as goal
 
 pub members-init : goal.members-init

@@ -1,4 +1,4 @@
-use Rattle.starlark_table.proofs.ReplacingWindows.{ReplacingWindow}
+use Rattle.starlark_table.proofs.GroupReplacement.{ReplacingWindow}
 use Rattle.starlark_table.proofs.replace.replace_window.Given as goal
 
 abbrev pub invariant-members : goal.invariant-members

@@ -1,10 +1,10 @@
 use Rattle.starlark_hash.proofs.Common.{◌<◌, ◌+◌, drop, None, Some, arith, ◌∙◌, length, get_or-set_same}
 use Rattle.starlark_table.specs.Table.{items_in}
 use Rattle.starlark_table.specs.Walk.{TakesAtMut}
-use Rattle.starlark_table.proofs.Walking.{walk_asks}
+use Rattle.starlark_table.proofs.ClosureCalls.{walk_asks}
 use Rattle.starlark_table.proofs.Lists.{head_left}
-use Rattle.starlark_table.proofs.Filling.{filled-by_tag}
-use Rattle.starlark_table.proofs.Retaining.{Turn, turn-kept, turn-taken, turn-empty, walked_on, walked_all}
+use Rattle.starlark_table.proofs.FilledSlots.{filled-by_tag}
+use Rattle.starlark_table.proofs.RetainPass.{Turn, turn-kept, turn-taken, turn-empty, walked_on, walked_all}
 use Rattle.starlark_table.proofs.retain.keep_items.Goals as goal
 use Rattle.starlark_table.proofs.retain.keep_items.Goals.{then-tags-slot+then-ask, then-tags-slot+else-ask, else-tags-slot}
 

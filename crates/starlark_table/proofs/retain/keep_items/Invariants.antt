@@ -1,4 +1,4 @@
-use Rattle.starlark_table.proofs.Retaining.{Walked}
+use Rattle.starlark_table.proofs.RetainPass.{Walked}
 use Rattle.starlark_table.proofs.retain.keep_items.Given as goal
 
 abbrev pub invariant-loop-slot : goal.invariant-loop-slot

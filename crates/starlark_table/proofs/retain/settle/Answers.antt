@@ -1,10 +1,10 @@
 use Rattle.starlark_hash.proofs.Common.{None, ℕ, ◌≡◌, ◌<◌, ◌+◌, length, arith, sym, ◌∙◌, subst, if◌then◌else◌, ◌==◌, swap}
-use Rattle.starlark_table.proofs.Closing.{same_hash, swapped_slots, taken_and_written}
+use Rattle.starlark_table.proofs.BackwardShift.{same_hash, swapped_slots, taken_and_written}
 use Rattle.starlark_table.specs.Layout.{at, distance, IsTagged}
 use Rattle.starlark_table.proofs.Circle.{distance-self, next-step}
-use Rattle.starlark_table.proofs.Settling.{Steps, steps_first, settled_all, steps_moved, steps_stays}
-use Rattle.starlark_table.proofs.Tagged.{tagged-swapped, empty-by_tag}
-use Rattle.starlark_table.proofs.Filling.{filled-by_tag}
+use Rattle.starlark_table.proofs.BackwardShiftPass.{Steps, steps_first, settled_all, steps_moved, steps_stays}
+use Rattle.starlark_table.proofs.SlotTags.{tagged-swapped, empty-by_tag}
+use Rattle.starlark_table.proofs.FilledSlots.{filled-by_tag}
 use Rattle.starlark_table.proofs.retain.settle.Goals as goal
 use Rattle.starlark_table.proofs.retain.settle.Goals.{then-tags-slot+then-to-slot, then-tags-slot+else-to-slot, else-tags-slot}
 

@@ -1,6 +1,6 @@
 use Rattle.starlark_hash.proofs.Common.{◌≡◌, ◌<◌}
 use Rattle.starlark_table.specs.Layout.{distance, IsTagged}
-use Rattle.starlark_table.proofs.Settling.{Steps}
+use Rattle.starlark_table.proofs.BackwardShiftPass.{Steps}
 use Rattle.starlark_table.proofs.retain.settle.Given as goal
 
 abbrev pub invariant-loop-step : goal.invariant-loop-step

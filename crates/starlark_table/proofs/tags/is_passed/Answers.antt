@@ -4,7 +4,7 @@ use Rattle.starlark_table.specs.Layout.{tag_bits, IsBetweenEmpty}
 use Rattle.starlark_table.proofs.TagBits.{FirstTagged, first-by_bits, tag_bits-later}
 use Rattle.starlark_table.proofs.tags.is_passed.Goals as goal
 
--- an empty slot before one, and the first behind it
+-- an empty slot before a full one, and the first empty one behind it, enclose it
 between : (tags : List ℕ) (slot k from n j : ℕ) → slot + 1 + 16 ≤ length tags → FirstTagged 255 tags (slot + 1) 16 k → FirstTagged 255 tags from n j
     → from + j < slot → slot + 1 + k ≤ from + j + 17 → IsBetweenEmpty tags slot
 between tags slot k from n j room high low before short = grind (arith, from + j, slot + 1 + k)

@@ -1,5 +1,5 @@
 use Rattle.starlark_hash.proofs.Common.{◌≡◌, ◌∷◌, map, rules}
-use Rattle.starlark_unordered.proofs.Refilled.{moves_on}
+use Rattle.starlark_unordered.proofs.PairMoves.{moves_on}
 use Rattle.starlark_unordered.proofs.into_hash_map.move_pairs.Goals as goal
 
 pub loop-key-preserved-in-Ok : goal.loop-key-preserved-in-Ok

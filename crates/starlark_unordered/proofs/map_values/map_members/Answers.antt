@@ -1,7 +1,7 @@
 use Rattle.starlark_hash.proofs.Common.{◌≡◌, ◌∙◌, [], ◌∷◌, length, ap, arith, refl, rules, length_permutation, Takes}
 use Rattle.starlark_hash.specs.HashValue.{hash_number, promoted}
-use Rattle.starlark_table.proofs.Walking.{walk_asks, walk_on}
-use Rattle.starlark_unordered.proofs.Mapping.{goes_on}
+use Rattle.starlark_table.proofs.ClosureCalls.{walk_asks, walk_on}
+use Rattle.starlark_unordered.proofs.ValueMapping.{goes_on}
 use Rattle.starlark_unordered.proofs.map_values.map_members.Goals as goal
 
 pub f-value-requires : goal.f-value-requires

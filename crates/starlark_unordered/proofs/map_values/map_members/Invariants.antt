@@ -1,7 +1,7 @@
 use Rattle.starlark_hash.proofs.Common.{◌≡◌, ◌≤◌, length, map}
 use Rattle.starlark_table.specs.Table.{members, table_capacity}
 use Rattle.starlark_unordered.specs.MapValues.{CanMapValues}
-use Rattle.starlark_unordered.proofs.Mapping.{Goes}
+use Rattle.starlark_unordered.proofs.ValueMapping.{Goes}
 use Rattle.starlark_unordered.proofs.map_values.map_members.Given as goal
 
 abbrev pub invariant-loop-hash : goal.invariant-loop-hash

@@ -1,11 +1,12 @@
--- `lend_placed` meets its contract, at any types: where there is a slot, the map is lent for good to the call that shows the pair, and else it is given up. Assumes `Logic`.
-use Rattle.starlark_columns.proofs.Walking.{◌≡◌, refl, sym, ◌∙◌, inl, inr, ℕ, suc-ne-zero, List, [], ◌∷◌, ◌++◌, lit<, a_type, dcons, dnil, named, w64, inst_fn, Val, vint, vstruct, vcons, vnil, of_list, SProp, id⊢, ex_e, snd∗, Lft, Share, Item, fat, full_share, ftrue, flft, fres, WpFn, sem, live, vrt, in_variant, by_variants, ◌⊑◌, fact, tables, ‵, raw, ◌⊛◌, some, given, later, prop, at_ret, ◌$◌, ◌∵◌, !, qed, by, move, keep, drop, use1, split, split3, join, pick, learn, fsplit, fsplit3, fpick, feq_l, fjoin, await, rewrite, regoal, group, whole, agg, stop, fld, addr, lit, of_opd, and_then, no_more, first, exec, returns, enter, alloc_all, pass_all, free_all, look_at, get, get_in, get_tag, through, sets, sets_last, lands_as, env, sub, no, rest, RattleType, owns, usize, follows, param, bounded, layout, param_laws, uint_Makes, uint_Tells, Bor, MutBor, MutRef, ShrRef, mut_vals, mut_Tells, plain, types_at, nothing, owned, heard, peeks, shows, Tuple, tuple_laws, calls_at, ensured, lasts, triple_of, Contract, framed, walk_of, Goes-blank, Good, Ok-of, Err-of, and_tt, proved_at, leaves, Result, Ok, Err, IfOk, OnErr, true, is_some, result_laws, after, tells, spent, drops}
+-- `lend_placed` meets its contract, at any types: if there is a slot, the map is lent for good to the call that shows the
+-- pair; otherwise the map is given up. Assumes `Logic`.
+use Rattle.starlark_columns.proofs.LogicNames.{◌≡◌, refl, sym, ◌∙◌, inl, inr, ℕ, suc-ne-zero, List, [], ◌∷◌, ◌++◌, lit<, a_type, dcons, dnil, named, w64, inst_fn, Val, vint, vstruct, vcons, vnil, of_list, SProp, id⊢, ex_e, snd∗, Lft, Share, Item, fat, full_share, ftrue, flft, fres, WpFn, sem, live, vrt, in_variant, by_variants, ◌⊑◌, fact, tables, ‵, raw, ◌⊛◌, some, given, later, prop, at_ret, ◌$◌, ◌∵◌, !, qed, by, move, keep, drop, use1, split, split3, join, pick, learn, fsplit, fsplit3, fpick, feq_l, fjoin, await, rewrite, regoal, group, whole, agg, stop, fld, addr, lit, of_opd, and_then, no_more, first, exec, returns, enter, alloc_all, pass_all, free_all, look_at, get, get_in, get_tag, through, sets, sets_last, lands_as, env, sub, no, rest, RattleType, owns, usize, follows, param, bounded, layout, param_laws, uint_Makes, uint_Tells, Bor, MutBor, MutRef, ShrRef, mut_vals, mut_Tells, plain, types_at, nothing, owned, heard, peeks, shows, Tuple, tuple_laws, calls_at, ensured, lasts, triple_of, Contract, framed, walk_of, Goes-blank, Good, Ok-of, Err-of, and_tt, proved_at, leaves, Result, Ok, Err, IfOk, OnErr, true, is_some, result_laws, after, tells, spent, drops}
 use prog.Wp.{spot_of}
 use Rattle.starlark_unordered.specs.Lend.{lends_placed, LendsSlot}
 use Rattle.starlark_unordered.specs.contracts.unordered_map.UnorderedMap.pair_at_mut as e
 use Rattle.starlark_table.proofs.LentInResult.{given_up, so_rests, so_follows, in_ok_told, in_err, which}
-use Rattle.starlark_unordered.proofs.LentPlaced as L
-use Rattle.starlark_unordered.proofs.LentPlaced.{Some, lone_value, Table, item_in, with_value, Placed, placed_blank, place_laws, mut_laws, shr_laws, good_value}
+use Rattle.starlark_unordered.proofs.ReferenceAndResult as L
+use Rattle.starlark_unordered.proofs.ReferenceAndResult.{Some, lone_value, Table, item_in, with_value, Placed, placed_blank, place_laws, mut_laws, shr_laws, good_value}
 use Rattle.starlark_unordered.proofs.unordered_map.UnorderedMap.pair_at_mut.Met as pair
 use Rattle.starlark_unordered.specs.contracts.raw_entry.lend_placed as contract
 use Rattle.starlark_unordered.proofs.raw_entry.lend_placed as routine

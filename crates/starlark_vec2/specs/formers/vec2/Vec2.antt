@@ -1,4 +1,4 @@
--- `Vec2` as a type that may hold the type that holds it, in its first parts.
+-- `Vec2` as a type constructor in its first parts, so that a recursive type may use it.
 use Rattle.std.specs.Prelude.{◌≡◌, ℕ, max, true, false, List, [], ◌∷◌, map, length, zip, Option, Some, None, is_some}
 use mathlib.Core.Path.{refl, sym, ap, ◌∙◌}
 use denote.RawPtr.{coded_ptr}
@@ -32,7 +32,7 @@ use Rattle.starlark_vec2.specs.contracts.vec2.Vec2 as vec2
 use Rattle.starlark_vec2.specs.contracts.vec2.Vec2.TheInside as inside
 use Rattle.starlark_vec2.specs.PairList.{PairList, pair_list, firsts_of}
 
--- one of g's values beside a second part
+-- pairs of a value of g and a second part
 abbrev pub entry : Former {0} → Type 0 → Former {0}
 entry g B = pair g (const B)
 

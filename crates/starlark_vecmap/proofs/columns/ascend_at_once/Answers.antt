@@ -1,5 +1,5 @@
 use Rattle.starlark_hash.proofs.Common.{◌+◌, sym, arith, is_lt}
-use Rattle.starlark_vecmap.proofs.Ascending.{is_lt-told, ascends-noted, ascends-told}
+use Rattle.starlark_vecmap.proofs.AscendingRange.{is_lt-told, ascends-noted, ascends-told}
 use Rattle.starlark_vecmap.proofs.columns.ascend_at_once.Goals as goal
 
 pub loop-i-preserved : goal.loop-i-preserved

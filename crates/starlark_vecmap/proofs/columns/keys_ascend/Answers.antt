@@ -1,5 +1,5 @@
 use Rattle.starlark_hash.proofs.Common.{length, arith, is_lt}
-use Rattle.starlark_vecmap.proofs.Ascending.{ascends-part, ascends-joined, ascends-whole}
+use Rattle.starlark_vecmap.proofs.AscendingRange.{ascends-part, ascends-joined, ascends-whole}
 use Rattle.starlark_vecmap.proofs.columns.keys_ascend.Goals as goal
 
 pub returns-then-not-ascend_one_by_one : goal.returns-then-not-ascend_one_by_one

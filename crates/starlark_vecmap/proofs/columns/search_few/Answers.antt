@@ -1,7 +1,7 @@
--- The mask shows the next index under the hash.
+-- The lowest bit of the mask is the next index under the hash.
 use Rattle.starlark_hash.proofs.Common.{refl, arith}
 use Rattle.starlark_vecmap.proofs.Blocks.{next_nowhere, next_index}
-use Rattle.starlark_vecmap.proofs.Searching.{index_asked, index_accepted, index_refused, none_left}
+use Rattle.starlark_vecmap.proofs.HashMatches.{index_asked, index_accepted, index_refused, none_left}
 use Rattle.starlark_vecmap.proofs.columns.search_few.Goals as goal
 
 pub offset_bounds-pairs-index : goal.offset_bounds-pairs-index

@@ -1,5 +1,5 @@
 use Rattle.starlark_hash.proofs.Common.{◌≡◌, ◌==◌, length, drop, map, ◌-◌, mask_l}
-use Rattle.starlark_vecmap.proofs.Searching.{Reached}
+use Rattle.starlark_vecmap.proofs.HashMatches.{Reached}
 use Rattle.starlark_vecmap.proofs.columns.search_few.Given as goal
 
 abbrev pub invariant-loop-mask : goal.invariant-loop-mask

@@ -1,5 +1,5 @@
 use Rattle.starlark_hash.proofs.Common.{refl, sym}
-use Rattle.starlark_vecmap.proofs.Searching.{index_asked, index_accepted, index_refused, none_left}
+use Rattle.starlark_vecmap.proofs.HashMatches.{index_asked, index_accepted, index_refused, none_left}
 use Rattle.starlark_vecmap.proofs.columns.search_long.Goals as goal
 
 pub accepts-requires : goal.accepts-requires

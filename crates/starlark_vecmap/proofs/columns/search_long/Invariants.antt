@@ -1,5 +1,5 @@
 use Rattle.starlark_hash.proofs.Common.{length, ◌-◌}
-use Rattle.starlark_vecmap.proofs.Searching.{Reached}
+use Rattle.starlark_vecmap.proofs.HashMatches.{Reached}
 use Rattle.starlark_vecmap.proofs.columns.search_long.Given as goal
 
 abbrev pub invariant-loop-index : goal.invariant-loop-index

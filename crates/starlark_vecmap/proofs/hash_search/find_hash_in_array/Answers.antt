@@ -1,4 +1,4 @@
--- The mask of the array shows the first index.
+-- The lowest bit of the array's mask is the first index.
 use Rattle.starlark_hash.proofs.Common.{[], sym, ◌∙◌, arith, append-nil, nat_eq}
 use Rattle.starlark_hash.proofs.PositionLemmas.{position-within}
 use Rattle.starlark_vecmap.proofs.Blocks.{lowest, nowhere_from, position_at}

@@ -1,4 +1,5 @@
--- What is left of the array is a block and the tail behind it, so the block's mask shows the first index.
+-- What is left of the array is a block and the tail behind it, so the lowest bit of the block's mask is the first
+-- index.
 use Rattle.starlark_hash.proofs.Common.{◌≡◌, ◌≢◌, ℕ, ◌+◌, ◌-◌, ◌≤◌, ◌++◌, List, [], Some, length, take, drop, arith, ap, sym, ◌∙◌, append-nil, take-append-drop, take_all, length-append, length-drop, count_trailing_zeros, nat_eq, position}
 use Rattle.starlark_hash.proofs.PositionLemmas.{position-within}
 use Rattle.starlark_vecmap.proofs.Blocks.{first, first_from, nowhere_from, past_block, lowest, position_at}
@@ -18,7 +19,7 @@ module _ (hash : ℕ) (array rest block tail : List ℕ) (passed m : ℕ) (index
 joined : (rest block tail : List ℕ) → block ≡ take 32 rest → tail ≡ drop 32 rest → rest ≡ block ++ tail
 joined rest block tail front back = rw (front, back) (sym (take-append-drop 32 rest))
 
--- a part of the array that ends where the array does is all that is left of it
+-- the mask of a part that ends where the array does is that of all that is left from `start` on
 last_mask : (hash : ℕ) (array : List ℕ) (start end m : ℕ) → m ≡ mask hash (take (end - start) (drop start array)) → length array ≤ end → m ≡ mask hash (drop start array)
 last_mask hash array start end m is whole = rw (take_all (end - start) (drop start array) (omega (arith, length-drop start array))) at is
 
@@ -38,7 +39,7 @@ loop-rest-preserved c =
     (joined _ _ _ s.ensures.front s.ensures.back) (omega arith) c.indices_of_block-mask.ensures c.if-mask-ne0.false in
     record { parted = omega arith; index = omega (arith, after, s.ensures.front_len) }
 
--- the last block may begin among the hashes that were passed over
+-- the last block may begin among hashes that were searched before
 pub returns-then-mask-eq0-clause-index : goal.returns-then-mask-eq0-clause-index
 returns-then-mask-eq0-clause-index c =
     let hash = c.args.hash in let array = c.args.array.now in let start = c.min-start.result in

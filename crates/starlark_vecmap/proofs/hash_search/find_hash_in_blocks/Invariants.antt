@@ -1,4 +1,4 @@
--- The rest of an array behind the hashes that were passed over.
+-- `rest` is the array behind the hashes that were searched, and none of these is the hash.
 use Rattle.starlark_hash.proofs.Common.{◌≡◌, ◌==◌, ◌+◌, length, position_or_len}
 use Rattle.starlark_vecmap.proofs.hash_search.find_hash_in_blocks.Given as goal
 

@@ -1,4 +1,4 @@
--- Two runs cover a block, so their bits are its mask.
+-- Two groups cover a block, so their bits make its mask.
 use Rattle.starlark_hash.proofs.Common.{◌-◌, length, arith}
 use Rattle.starlark_vecmap.proofs.Masks.{mask_ends}
 use Rattle.starlark_vecmap.proofs.hash_search.indices_of_block.Goals as goal

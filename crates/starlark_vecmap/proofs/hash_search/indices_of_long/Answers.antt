@@ -1,4 +1,4 @@
--- The bits of the indices before the last, and that of the last.
+-- The mask of all indices but the last, and the bit of the last.
 use Rattle.starlark_hash.proofs.Common.{arith}
 use Rattle.starlark_vecmap.proofs.Masks.{mask_last}
 use Rattle.starlark_vecmap.proofs.hash_search.indices_of_long.Goals as goal

@@ -1,5 +1,5 @@
 -- A `&` to a `Claim` lends nothing. Assumes `Logic`.
-use Rattle.starlark_columns.proofs.Walking.{Laws, copy_shared, RattleType, RawPtr, nothing_shr_laws, field_copy, of_Lends, Lends-nothing, Ghosts}
+use Rattle.starlark_columns.proofs.LogicNames.{Laws, copy_shared, RattleType, RawPtr, nothing_shr_laws, field_copy, of_Lends, Lends-nothing, Ghosts}
 use Rattle.core.specs.contracts.marker.PhantomData as mark
 use Rattle.starlark_columns.proofs.block.Claim.TheLaw.Statement.{statement}
 use Rattle.starlark_columns.specs.contracts.block.Claim as claim

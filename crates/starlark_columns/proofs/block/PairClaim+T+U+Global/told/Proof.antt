@@ -1,5 +1,5 @@
--- `told` reads where the rows lie from what a `&` to the right says. Assumes `Logic`.
-use Rattle.starlark_columns.proofs.Walking.{◌≡◌, ℕ, List, [], ◌∷◌, refl, sym, ap, subst, ftrue, flft, ◌⊑◌, fact, inst_fn, a_type, named, Val, vunit, vptr, alloc_all, pass_all, free_all, look_at, sets, ‵, raw, ◌⊛◌, ◌$◌, ◌∵◌, !, qed, by, move, keep, split, fsplit, feq_i, feq_l, unit_lit, of_opd, returns, enter, param, layouts, RattleType, owns, Ptr, unhide, Bor, shr_vals, shr_Tells, types_at, walk_of, proved, leaves, ghosts, tells, spent, drops, drops_go, InBlock, toks}
+-- `told` learns the addresses of both rows from what a `&` to the right says. Assumes `Logic`.
+use Rattle.starlark_columns.proofs.LogicNames.{◌≡◌, ℕ, List, [], ◌∷◌, refl, sym, ap, subst, ftrue, flft, ◌⊑◌, fact, inst_fn, a_type, named, Val, vunit, vptr, alloc_all, pass_all, free_all, look_at, sets, ‵, raw, ◌⊛◌, ◌$◌, ◌∵◌, !, qed, by, move, keep, split, fsplit, feq_i, feq_l, unit_lit, of_opd, returns, enter, param, layouts, RattleType, owns, Ptr, unhide, Bor, shr_vals, shr_Tells, types_at, walk_of, proved, leaves, ghosts, tells, spent, drops, drops_go, InBlock, toks}
 use Rattle.starlark_columns.proofs.RowValues.{PairClaimOf, behind}
 use Rattle.std.specs.contracts.alloc.Global as heap
 use Rattle.starlark_columns.specs.contracts.block.PairClaim+T+U+Global.told as contract

@@ -1,5 +1,5 @@
--- A `&` to a `PairClaim` says where its rows lie. Assumes `Logic`.
-use Rattle.starlark_columns.proofs.Walking.{Laws, copy_shared, RattleType, RawPtr, nothing_shr_laws, field_copy, of_Lends, Lends-nothing, Ghosts}
+-- A `&` to a `PairClaim` says which addresses its rows have. Assumes `Logic`.
+use Rattle.starlark_columns.proofs.LogicNames.{Laws, copy_shared, RattleType, RawPtr, nothing_shr_laws, field_copy, of_Lends, Lends-nothing, Ghosts}
 use denote.Sharing.{said, nothing}
 use denote.SharingLaws.{said_shr_laws, beside_shr_laws}
 use denote.Struct.Lending.{Lends-both, Lends-said}

@@ -1,6 +1,6 @@
 use Rattle.std.proofs.Common.{length, refl, sym, ap, ◌∙◌}
 use Rattle.std.specs.List.{refill}
-use Rattle.starlark_columns.proofs.Fronts.{written_items, written_cells, written_front}
+use Rattle.starlark_columns.proofs.ItemsAtFront.{written_items, written_cells, written_front}
 use Rattle.starlark_columns.proofs.bytes.Bytes.as_mut_slice.Goals as goal
 
 pub invariant_of-self-lent : goal.invariant_of-self-lent

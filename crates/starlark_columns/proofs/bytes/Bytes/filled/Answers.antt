@@ -1,4 +1,4 @@
-use Rattle.starlark_columns.proofs.Fronts.{front_empties}
+use Rattle.starlark_columns.proofs.ItemsAtFront.{front_empties}
 use Rattle.starlark_columns.proofs.bytes.Bytes.filled.Goals as goal
 
 pub loop-made-init : goal.loop-made-init

@@ -1,5 +1,5 @@
 use Rattle.std.proofs.Common.{◌≡◌, length, replicate}
-use Rattle.starlark_columns.proofs.Fronts.{IsFront, items_of}
+use Rattle.starlark_columns.proofs.ItemsAtFront.{IsFront, items_of}
 use Rattle.starlark_columns.proofs.bytes.Bytes.filled.Given as goal
 
 abbrev pub invariant-loop-made : goal.invariant-loop-made

@@ -1,19 +1,20 @@
--- `lend` lends the cells, and the column, open for good, is closed by what they follow. Assumes `Logic`.
-use Rattle.starlark_columns.proofs.Walking.{◌≡◌, ℕ, ◌+◌, ◌*◌, ◌<◌, ◌^◌, List, [], ◌∷◌, length, refl, sym, ap, subst, ◌∙◌, zero-add, zero-mul, GName, Lft, Share, ftrue, flft, fobs, fbor, SProp, sep, never, id⊢, ◌⊑◌, fact, tables, inst_fn, a_type, named, dcons, dnil, Val, vptr, vstruct, vcons, vnil, alloc_all, pass_all, free_all, look_at, get, through, sets, ‵, raw, ◌⊛◌, some, later, ◌$◌, ◌∵◌, !, qed, by, move, keep, use0, use1, split, split3, join, pick, rewrite, fsplit, fsplit3, fjoin, flt_i, flt_l, group, await, sem, open_ref, takes_part, Body, whole, sub, agg, look_in, stop, fld, load, of_opd, no_more, and_then, returns, enter, follows, mem, param, bounded, RattleType, owns, Ptr, block_ptr, in_block, in_a_block, MutBor, mut_vals, mut_Tells, makes_shadow, named_lft, types_at, shape, Struct, walk_of, proved, leaves, type_size, tells, spent, drops, drops_go, toks, El, R, zero, Ura, full_share, Fml, fsep, ent, ex, size, align, up, use2, show, fpick, fpack, done, Logic, usize, shows, Denots, part_at, part_of, cell_at, lone, plain_out, Plain-in, view_made, facts, lawfuls, Member, rows_of, parts_at, PartsBack, Struct-parts, ghosts, param_laws}
+-- `lend` lends the cells. The borrow of the column is opened and never closed by itself: what the loan of the cells
+-- ends as closes it. Assumes `Logic`.
+use Rattle.starlark_columns.proofs.LogicNames.{◌≡◌, ℕ, ◌+◌, ◌*◌, ◌<◌, ◌^◌, List, [], ◌∷◌, length, refl, sym, ap, subst, ◌∙◌, zero-add, zero-mul, GName, Lft, Share, ftrue, flft, fobs, fbor, SProp, sep, never, id⊢, ◌⊑◌, fact, tables, inst_fn, a_type, named, dcons, dnil, Val, vptr, vstruct, vcons, vnil, alloc_all, pass_all, free_all, look_at, get, through, sets, ‵, raw, ◌⊛◌, some, later, ◌$◌, ◌∵◌, !, qed, by, move, keep, use0, use1, split, split3, join, pick, rewrite, fsplit, fsplit3, fjoin, flt_i, flt_l, group, await, sem, open_ref, takes_part, Body, whole, sub, agg, look_in, stop, fld, load, of_opd, no_more, and_then, returns, enter, follows, mem, param, bounded, RattleType, owns, Ptr, block_ptr, in_block, in_a_block, MutBor, mut_vals, mut_Tells, makes_shadow, named_lft, types_at, shape, Struct, walk_of, proved, leaves, type_size, tells, spent, drops, drops_go, toks, El, R, zero, Ura, full_share, Fml, fsep, ent, ex, size, align, up, use2, show, fpick, fpack, done, Logic, usize, shows, Denots, part_at, part_of, cell_at, lone, plain_out, Plain-in, view_made, facts, lawfuls, Member, rows_of, parts_at, PartsBack, Struct-parts, ghosts, param_laws}
 use Rattle.starlark_columns.proofs.RowValues.{cells_owned, row_owned, word, address_told, address_made, Marked, RowOf, ClaimOf, with_cells, shut as row_shut}
 use Rattle.std.specs.contracts.alloc.Global as heap
 use Rattle.starlark_columns.specs.contracts.block.Address as address
 use Rattle.starlark_columns.specs.declared.column.Column.TheInside.{Inside}
 use Rattle.starlark_columns.specs.contracts.column.Column as C
 use Rattle.starlark_columns.proofs.PairParts.{part}
-use Rattle.starlark_columns.proofs.Steps.{first_in}
+use Rattle.starlark_columns.proofs.ProofSteps.{first_in}
 use Rattle.starlark_columns.proofs.column.Column as laws
 use Rattle.starlark_columns.proofs.LentCells.{cells_itself, kept_cells, KeptCells, lent_cells, length-kept_cells}
 use Rattle.starlark_columns.specs.contracts.loan.Loan as loan
 use Rattle.starlark_columns.specs.contracts.column.Column.lend as contract
 use Rattle.starlark_columns.proofs.column.Column.lend as routine
 
--- a column in memory is its address, its cells and the rest, and back, at any cells as many
+-- a column in memory as its address, its cells and the other fields, and back, for any cells of the same number
 module _ (E : El) where
   abbrev ColumnOf : RattleType
   ColumnOf = C.the_row (R E)
@@ -30,29 +31,29 @@ module _ (E : El) where
   abbrev ms : List Member
   ms = part CA ∷ part usize ∷ part (RowOf (R E)) ∷ behind
 
-  -- where the fields lie
-  abbrev eA : ℕ
-  eA = up (align (lone CA.mir)) zero
+  -- the offsets of the fields in the struct
+  abbrev address_offset : ℕ
+  address_offset = up (align (lone CA.mir)) zero
 
-  abbrev eN : ℕ
-  eN = up (align (lone usize.mir)) (eA + size (lone CA.mir))
+  abbrev count_offset : ℕ
+  count_offset = up (align (lone usize.mir)) (address_offset + size (lone CA.mir))
 
-  abbrev eH : ℕ
-  eH = up (align (lone (RowOf (R E)).mir)) (eN + size (lone usize.mir))
+  abbrev row_offset : ℕ
+  row_offset = up (align (lone (RowOf (R E)).mir)) (count_offset + size (lone usize.mir))
 
   abbrev to : (Inside (R E).Denot) → Denots (rows_of ms)
   to d = (C.TheInside.the_type (R E)).to d
 
   module _ {M : Type 1} {𝓤 : Ura M} (𝓛 : Logic 𝓤) (b o : ℕ) where
     abbrev Word : Ptr → Fml
-    Word p = cell_at full_share CA.mir (word p ∷ []) b (o + eA)
+    Word p = cell_at full_share CA.mir (word p ∷ []) b (o + address_offset)
 
     abbrev Back : SProp 𝓤
     Back = PartsBack 𝓛 full_share (C.TheInside.the_type (R E)).name ms b o
 
-    -- all but the address and the cells
+    -- all that the column owns except the word of the address and the cells
     abbrev Shell : (Inside (R E).Denot) → List Val → SProp 𝓤
-    Shell d vs = sep 𝓤 (sem 𝓛 (part_at usize full_share d.count b (o + eN))) (sep 𝓤 (sem 𝓛 (fsep ((Marked (R E)).own_val (tt, tt) vs) (cell_at full_share (RowOf (R E)).mir vs b (o + eH)))) (sep 𝓤 (sem 𝓛 (parts_at full_share behind (eH + size (lone (RowOf (R E)).mir)) (to d).1.1.1 b o)) Back))
+    Shell d vs = sep 𝓤 (sem 𝓛 (part_at usize full_share d.count b (o + count_offset))) (sep 𝓤 (sem 𝓛 (fsep ((Marked (R E)).own_val (tt, tt) vs) (cell_at full_share (RowOf (R E)).mir vs b (o + row_offset)))) (sep 𝓤 (sem 𝓛 (parts_at full_share behind (row_offset + size (lone (RowOf (R E)).mir)) (to d).1.1.1 b o)) Back))
 
     abbrev Cuts : (v : ColumnOf.Denot) → ((d : (Inside (R E).Denot)) × Known v d) × List Val → SProp 𝓤
     Cuts v d = sep 𝓤 (sem 𝓛 (Word d.0.0.address.at)) (sep 𝓤 (sem 𝓛 (row_owned (R E) d.0.0.row.at d.0.0.row.cells)) (Shell d.0.0 d.1))
@@ -63,12 +64,12 @@ module _ (E : El) where
         qed 𝓛 (‵ (part_at ColumnOf full_share v b o) ∷ []) ∵ use1 𝓛 (some (λ (d : (d : (Inside (R E).Denot)) × Known v d). ‵ (part_at (C.TheInside.the_row (R E)) full_share d.0 b o))) (plain_out ColumnOf (C.TheInside.the_row (R E)) (laws.TheLaws.the_opens (R E)) 𝓛 full_share v b o) $ pick ! (λ d.
         use1 𝓛 (‵ (parts_at full_share ms zero (to d.0) b o) ⊛ raw Back) (Struct-parts 𝓛 full_share (C.TheInside.the_type (R E)).name ms (lawfuls 𝓛 (C.TheInside.the_type (R E)).parts (laws.TheInside.TheLaws.the_loose (R E) (param_laws 0 E.row E.laws))) (to d.0) b o) $ split ! $
         -- [the address; the count; the others; the way back]
-        fsplit3 ! $ fpick ! (λ ws. fsplit ! $ move ! (1 ∷ []) $ facts ! CA _ (shows 𝓛 CA) (d.0.address.at, tt) ws (λ is. rewrite ! 0 (λ (us : List Val). ‵ (cell_at full_share CA.mir us b (o + eA))) (address_told (R E) d.0.address ws is) refl $
+        fsplit3 ! $ fpick ! (λ ws. fsplit ! $ move ! (1 ∷ []) $ facts ! CA _ (shows 𝓛 CA) (d.0.address.at, tt) ws (λ is. rewrite ! 0 (λ (us : List Val). ‵ (cell_at full_share CA.mir us b (o + address_offset))) (address_told (R E) d.0.address ws is) refl $
         move ! (2 ∷ []) $ fsplit ! $ fpick ! (λ vs. fsplit ! $ move ! (1 ∷ []) $ fsplit ! $ move ! (0 ∷ 2 ∷ []) $ fjoin ! $
         -- [the mark; the cells; what is behind; the address; the count; the way back]
         show ! (Cuts v) (d, vs) $ keep ! (3 ∷ 1 ∷ 4 ∷ 0 ∷ 2 ∷ 5 ∷ []) $ done !))))
 
-    -- the cells come back with what was written
+    -- the column again, once its cells come back as they were written
     kept_shut : (kept : (R E).Denot → (R E).Denot → (R E).Denot) (v : ColumnOf.Denot) (d : (Inside (R E).Denot)) (vs : List Val) → Known v d → (ab ao : ℕ) → d.row.at ≡ block_ptr ab ao → length v * type_size (R E) < 2 ^ 63 → (ws : ColumnOf.Denot)
         → ent 𝓤 (sep 𝓤 (sem 𝓛 ((KeptCells (R E) kept v).own_at ws ab ao)) (sep 𝓤 (sem 𝓛 (Word d.address.at)) (Shell d vs))) (sem 𝓛 ((mem ColumnOf).own_at (kept_cells kept v ws) b o))
     unfolding part_of
@@ -76,12 +77,12 @@ module _ (E : El) where
         let ds : ColumnOf.Denot = kept_cells kept v ws in let long : length ds ≡ length v = length-kept_cells kept v ws in let same : length v ≡ length d.row.cells = ap length (sym k.0) in
         let d' : (Inside (R E).Denot) = record d { row = with_cells d.row ds } in let known : Known ds d' = (refl, (k.1.0, long ∙ same ∙ k.1.1, k.1.2)) in
         qed 𝓛 (‵ ((KeptCells (R E) kept v).own_at ws ab ao) ∷ ‵ (Word d.address.at)
-        ∷ (‵ (part_at usize full_share d.count b (o + eN)) ⊛ ‵ (fsep ((Marked (R E)).own_val (tt, tt) vs) (cell_at full_share (RowOf (R E)).mir vs b (o + eH))) ⊛ ‵ (parts_at full_share behind (eH + size (lone (RowOf (R E)).mir)) (to d).1.1.1 b o) ⊛ raw Back) ∷ []) ∵
+        ∷ (‵ (part_at usize full_share d.count b (o + count_offset)) ⊛ ‵ (fsep ((Marked (R E)).own_val (tt, tt) vs) (cell_at full_share (RowOf (R E)).mir vs b (o + row_offset))) ⊛ ‵ (parts_at full_share behind (row_offset + size (lone (RowOf (R E)).mir)) (to d).1.1.1 b o) ⊛ raw Back) ∷ []) ∵
         move ! (2 ∷ []) $ split3 ! $ move ! (2 ∷ []) $ split ! $
         -- [what is behind; the way back; the count; the mark; the cells; the address]
-        move ! (4 ∷ 3 ∷ []) $ use2 𝓛 (‵ ((mem (RowOf (R E))).own_at d'.row b (o + eH))) (row_shut E 𝓛 d.row b (o + eH) vs ab ao at (subst (λ (n : ℕ). n * type_size (R E) < 2 ^ 63) same few) ds (long ∙ same)) $
+        move ! (4 ∷ 3 ∷ []) $ use2 𝓛 (‵ ((mem (RowOf (R E))).own_at d'.row b (o + row_offset))) (row_shut E 𝓛 d.row b (o + row_offset) vs ab ao at (subst (λ (n : ℕ). n * type_size (R E) < 2 ^ 63) same few) ds (long ∙ same)) $
         fjoin ! $ move ! (2 ∷ 0 ∷ []) $ fjoin ! $ join ! $ move ! (1 ∷ []) $ use0 𝓛 (‵ (CA.own_val (d.address.at, tt) (word d.address.at ∷ []))) (address_made (R E) 𝓛 d.address.at) $ move ! (1 ∷ 0 ∷ []) $ fjoin ! $
-        fpack ! (List Val) (λ us. fsep (cell_at full_share CA.mir us b (o + eA)) (CA.own_val (d.address.at, tt) us)) (word d.address.at ∷ []) $
+        fpack ! (List Val) (λ us. fsep (cell_at full_share CA.mir us b (o + address_offset)) (CA.own_val (d.address.at, tt) us)) (word d.address.at ∷ []) $
         use2 𝓛 (‵ (part_at (C.TheInside.the_row (R E)) full_share d' b o)) (first_in (part CA) (part usize ∷ part (RowOf (R E)) ∷ behind) (C.TheInside.the_type (R E)).name 𝓛 b o (to d')) $
         by ! (Plain-in ColumnOf (C.TheInside.the_row (R E)) (laws.TheLaws.the_opens (R E)) 𝓛 full_share ds d' (view_made (C.TheInside.the_row (R E)) ColumnOf.Denot ColumnOf.coded (C.the_view (R E)) (C.the_invariant (R E)) 𝓛 ds d' known) b o)
 

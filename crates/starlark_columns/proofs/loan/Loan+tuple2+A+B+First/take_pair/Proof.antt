@@ -1,6 +1,7 @@
--- `take_pair` hands out the pair of the next cell, of which the first part stays. Assumes `Logic`.
-use Rattle.starlark_columns.proofs.Walking.{◌≡◌, ℕ, suc, ◌+◌, ◌*◌, ◌<◌, ◌^◌, Option, Some, List, [], ◌∷◌, refl, sym, ap, subst, arith, w64, GName, Incl-trans, flft, full_share, SProp, never, id⊢, ◌⊑◌, Lfts, fact, tables, inst_fn, a_type, named, Val, vint, vptr, vstruct, vcons, vnil, alloc_all, pass_all, free_all, look_at, get, through, is, sets, sets_last, env, Item, ‵, raw, ◌⊛◌, some, later, at_ret, ◌$◌, ◌∵◌, !, qed, by, move, keep, use2, split, split3, join, pick, rewrite, fsplit, fsplit3, fjoin, fjoin3, feq_i, await, whole, sub, look_in, agg, and_then, no_more, stop, fld, load, bin, addr, size_word, of_opd, first, blocks, exec, returns, enter, usize, yes, shows, cell_at, param, layouts, param_laws, uint_vals, uint_Tells, RattleType, owns, Ptr, in_a_block, Bor, MutBor, MutRef, ShrRef, mut_vals, mut_Tells, plain, named_lft, types_at, heard, peeks, opens, closes, Tuple, Stays, stay_ref, stay_dropped, walk_of, Goes-ref, Goes-dropped, after, uncapped, proved, leaves, type_size, IsFilled, learn, block_ptr, tells, spent, toks, list_drop}
-use Rattle.starlark_columns.proofs.EntryOut.{Out, pair_out, part, first_at, second_at, as_tuple}
+-- `take_pair` gives a `&` to the first part of the pair in the next cell, which stays, and a `&mut` to the second.
+-- Assumes `Logic`.
+use Rattle.starlark_columns.proofs.LogicNames.{◌≡◌, ℕ, suc, ◌+◌, ◌*◌, ◌<◌, ◌^◌, Option, Some, List, [], ◌∷◌, refl, sym, ap, subst, arith, w64, GName, Incl-trans, flft, full_share, SProp, never, id⊢, ◌⊑◌, Lfts, fact, tables, inst_fn, a_type, named, Val, vint, vptr, vstruct, vcons, vnil, alloc_all, pass_all, free_all, look_at, get, through, is, sets, sets_last, env, Item, ‵, raw, ◌⊛◌, some, later, at_ret, ◌$◌, ◌∵◌, !, qed, by, move, keep, use2, split, split3, join, pick, rewrite, fsplit, fsplit3, fjoin, fjoin3, feq_i, await, whole, sub, look_in, agg, and_then, no_more, stop, fld, load, bin, addr, size_word, of_opd, first, blocks, exec, returns, enter, usize, yes, shows, cell_at, param, layouts, param_laws, uint_vals, uint_Tells, RattleType, owns, Ptr, in_a_block, Bor, MutBor, MutRef, ShrRef, mut_vals, mut_Tells, plain, named_lft, types_at, heard, peeks, opens, closes, Tuple, Stays, stay_ref, stay_dropped, walk_of, Goes-ref, Goes-dropped, after, uncapped, proved, leaves, type_size, IsFilled, learn, block_ptr, tells, spent, toks, list_drop}
+use Rattle.starlark_columns.proofs.EntryParts.{Out, pair_out, part, first_at, second_at, as_tuple}
 use Rattle.starlark_columns.proofs.LentCells.{Off, item_off, loan_told, lent_from}
 use Rattle.starlark_columns.specs.contracts.loan as loan
 use Rattle.starlark_columns.specs.contracts.loan.Loan+tuple2+A+B+First.take_pair as contract

@@ -1,5 +1,5 @@
--- `skip` passes over a cell, which stays as it is. Assumes `Logic`.
-use Rattle.starlark_columns.proofs.Walking.{◌≡◌, ℕ, suc, ◌+◌, ◌<◌, Option, List, [], ◌∷◌, length, refl, sym, arith, flft, SProp, never, id⊢, ◌⊑◌, Lfts, fact, tables, inst_fn, a_type, named, dcons, dnil, Val, vptr, vunit, alloc_all, pass_all, free_all, look_at, sets, ‵, raw, ◌⊛◌, some, later, ◌$◌, ◌∵◌, !, qed, by, move, keep, use2, split, split3, join, pick, rewrite, fsplit, fsplit3, fjoin, fjoin3, feq_i, await, unit_lit, of_opd, returns, enter, param, bounded, RattleType, owns, Ptr, in_a_block, mut_vals, mut_Tells, plain, named_lft, types_at, heard, nothing, opens, closes, Stays, stay_ref, walk_of, Goes-ref, proved, leaves, type_size, tells, toks, list_drop}
+-- `skip` skips a cell, which stays as it is. Assumes `Logic`.
+use Rattle.starlark_columns.proofs.LogicNames.{◌≡◌, ℕ, suc, ◌+◌, ◌<◌, Option, List, [], ◌∷◌, length, refl, sym, arith, flft, SProp, never, id⊢, ◌⊑◌, Lfts, fact, tables, inst_fn, a_type, named, dcons, dnil, Val, vptr, vunit, alloc_all, pass_all, free_all, look_at, sets, ‵, raw, ◌⊛◌, some, later, ◌$◌, ◌∵◌, !, qed, by, move, keep, use2, split, split3, join, pick, rewrite, fsplit, fsplit3, fjoin, fjoin3, feq_i, await, unit_lit, of_opd, returns, enter, param, bounded, RattleType, owns, Ptr, in_a_block, mut_vals, mut_Tells, plain, named_lft, types_at, heard, nothing, opens, closes, Stays, stay_ref, walk_of, Goes-ref, proved, leaves, type_size, tells, toks, list_drop}
 use Rattle.starlark_columns.proofs.LentCells.{Left, cell_off, lent_from}
 use Rattle.starlark_columns.specs.contracts.loan.Loan as loan
 use Rattle.starlark_columns.specs.contracts.loan.Loan.skip as contract

@@ -1,5 +1,5 @@
 -- A `&` to a `Row` lends the items of its cells. Assumes `Logic`.
-use Rattle.starlark_columns.proofs.Walking.{[], ◌++◌, Incl-trans, meet_⊑_left, Laws, copy_shared, RattleType, RawPtr, field_copy, of_Lends, ◌*◌, ◌^◌, List, ◌∷◌, length, Option, Some, None, type_size, Ura, Logic}
+use Rattle.starlark_columns.proofs.LogicNames.{[], ◌++◌, Incl-trans, meet_⊑_left, Laws, copy_shared, RattleType, RawPtr, field_copy, of_Lends, ◌*◌, ◌^◌, List, ◌∷◌, length, Option, Some, None, type_size, Ura, Logic}
 use base.Fml.{Fml, Lft, Incl, ftrue, ffalse, flt}
 use denote.RattleType.{RowLaws}
 use denote.RawPtr.{Ptr, block_ptr, null_ptr, ◌+ₚ◌}
@@ -13,7 +13,7 @@ use Rattle.starlark_columns.proofs.row.Row.TheLaw.Statement.{statement}
 use Rattle.starlark_columns.specs.contracts.row.Row as row
 
 module _ (R : RattleType) where
-  -- the bound on the bytes of all cells
+  -- all cells take fewer than 2 ^ 63 bytes
   abbrev bounded : List (Option R.Denot) → Fml
   bounded cs = flt (length cs * type_size R) (2 ^ 63)
 

@@ -1,6 +1,6 @@
 use Rattle.std.proofs.Common.{◌≡◌, length, take}
 use Rattle.std.specs.List.{AllZip}
-use Rattle.starlark_columns.proofs.Fronts.{IsFront, items_of}
+use Rattle.starlark_columns.proofs.ItemsAtFront.{IsFront, items_of}
 use Rattle.starlark_columns.proofs.row.Row.clone_items.Given as goal
 
 abbrev pub invariant-loop-made : goal.invariant-loop-made

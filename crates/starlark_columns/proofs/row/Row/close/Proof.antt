@@ -1,5 +1,5 @@
--- `close` takes the places of slots, and forgets what a run of them holds. Assumes `Logic`.
-use Rattle.starlark_columns.proofs.Walking.{◌≡◌, ℕ, ◌*◌, ◌<◌, ◌^◌, Option, Bool, List, [], ◌∷◌, length, refl, sym, subst, ◌∙◌, w64, ftrue, flft, SProp, ◌⊑◌, fact, tables, inst_fn, a_type, named, Val, vunit, vint, vptr, WT, alloc_all, pass_all, free_all, look_at, get, is, sets, lands_last, env, ‵, raw, ◌⊛◌, given, later, at_ret, ◌$◌, ◌∵◌, !, qed, by, move, keep, use1, use2, split, split3, drop, join, learn, rewrite, fsplit, fsplit3, fjoin, fjoin3, feq_i, flt_i, await, unit_lit, no_more, and_then, of_opd, first, blocks, exec, returns, enter, usize, yes, no, layouts, uint_vals, uint_Tells, RattleType, owns, Ptr, block_ptr, mut_vals, mut_Tells, plain, types_at, heard, nothing, opens, closes, calls_at_last, framed, Stays, stay_dropped, stay_ref, walk_of, Goes-dropped, Goes-ref, El, after, Sr, words_val, row_val, row_had, row_made, slots, slots_items, slots_filled, slots_ptr, slots_len, slots_counts, slots_small, proved, leaves, type_size, R, tells, spent}
+-- `close` takes the memory of the slots back, and forgets the items of a range of them. Assumes `Logic`.
+use Rattle.starlark_columns.proofs.LogicNames.{◌≡◌, ℕ, ◌*◌, ◌<◌, ◌^◌, Option, Bool, List, [], ◌∷◌, length, refl, sym, subst, ◌∙◌, w64, ftrue, flft, SProp, ◌⊑◌, fact, tables, inst_fn, a_type, named, Val, vunit, vint, vptr, WT, alloc_all, pass_all, free_all, look_at, get, is, sets, lands_last, env, ‵, raw, ◌⊛◌, given, later, at_ret, ◌$◌, ◌∵◌, !, qed, by, move, keep, use1, use2, split, split3, drop, join, learn, rewrite, fsplit, fsplit3, fjoin, fjoin3, feq_i, flt_i, await, unit_lit, no_more, and_then, of_opd, first, blocks, exec, returns, enter, usize, yes, no, layouts, uint_vals, uint_Tells, RattleType, owns, Ptr, block_ptr, mut_vals, mut_Tells, plain, types_at, heard, nothing, opens, closes, calls_at_last, framed, Stays, stay_dropped, stay_ref, walk_of, Goes-dropped, Goes-ref, El, after, Sr, words_val, row_val, row_had, row_made, slots, slots_items, slots_filled, slots_ptr, slots_len, slots_counts, slots_small, proved, leaves, type_size, R, tells, spent}
 use Rattle.core.proofs.slots.Slots.into_raw_parts.Met as callee
 use Rattle.starlark_columns.proofs.RowValues.{RowOf, row_owned, Row, of_slots, empties_run, cells_count, emptied_count, held, Into, at_into, Into-goes, Into-gives, row_told, row_good, parts_typed, cells_of, emptied}
 use Rattle.starlark_columns.specs.contracts.row.Row.close as contract

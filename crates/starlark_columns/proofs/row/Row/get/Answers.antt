@@ -1,4 +1,4 @@
-use Rattle.starlark_columns.proofs.Slotting.{one_filled}
+use Rattle.starlark_columns.proofs.CellsOfSlots.{one_filled}
 use Rattle.starlark_columns.proofs.row.Row.get.Goals as goal
 
 pub slice-requires-clause-filled : goal.slice-requires-clause-filled

@@ -1,5 +1,5 @@
--- `get_mut` lends one item, and its cell follows it. Assumes `Logic`.
-use Rattle.starlark_columns.proofs.Walking.{◌≡◌, ◌+◌, Some, get_or, slice_set, ℕ, ◌*◌, ◌<◌, ◌^◌, Option, List, [], ◌∷◌, length, refl, sym, ap, subst, ◌∙◌, arith, w64, GName, ftrue, fat, flft, full_share, SProp, sep, never, id⊢, ◌⊑◌, fact, tables, inst_fn, a_type, named, Val, vint, vptr, alloc_all, pass_all, free_all, look_at, take_at, give_at, get, get_in, through, is, sets, sets_last, env, ‵, raw, ◌⊛◌, some, later, at_ret, ◌$◌, ◌∵◌, !, qed, by, move, keep, use1, split, split3, join, pick, rewrite, fsplit, fsplit3, group, fjoin, flt_l, await, sem, whole, sub, stop, bin, addr, size_word, fld, of_opd, first, blocks, exec, returns, enter, layout, layouts, uint_vals, uint_Tells, RattleType, owns, Ptr, in_block, in_a_block, follows, Part, lends_Part, MutBor, MutRef, mut_vals, mut_Tells, types_at, heard, nothing, opens, walk_of, El, times_below, uncapped, after, proved, leaves, type_size, None, R, IsFilled, tells, spent, drops, drops_go}
+-- `get_mut` lends one item, and the row ends as its loan says. Assumes `Logic`.
+use Rattle.starlark_columns.proofs.LogicNames.{◌≡◌, ◌+◌, Some, get_or, slice_set, ℕ, ◌*◌, ◌<◌, ◌^◌, Option, List, [], ◌∷◌, length, refl, sym, ap, subst, ◌∙◌, arith, w64, GName, ftrue, fat, flft, full_share, SProp, sep, never, id⊢, ◌⊑◌, fact, tables, inst_fn, a_type, named, Val, vint, vptr, alloc_all, pass_all, free_all, look_at, take_at, give_at, get, get_in, through, is, sets, sets_last, env, ‵, raw, ◌⊛◌, some, later, at_ret, ◌$◌, ◌∵◌, !, qed, by, move, keep, use1, split, split3, join, pick, rewrite, fsplit, fsplit3, group, fjoin, flt_l, await, sem, whole, sub, stop, bin, addr, size_word, fld, of_opd, first, blocks, exec, returns, enter, layout, layouts, uint_vals, uint_Tells, RattleType, owns, Ptr, in_block, in_a_block, follows, Part, lends_Part, MutBor, MutRef, mut_vals, mut_Tells, types_at, heard, nothing, opens, walk_of, El, times_below, uncapped, after, proved, leaves, type_size, None, R, IsFilled, tells, spent, drops, drops_go}
 use Rattle.starlark_columns.proofs.RowValues.{word, word_good, address_told, AddressOf, RowOf, cells_owned, Cell, Without, cell_out, with_cells, filled_within, Shell, cell_shut}
 use Rattle.starlark_columns.specs.contracts.row.Row.get_mut as contract
 use Rattle.starlark_columns.proofs.row.Row.get_mut as routine

@@ -1,4 +1,4 @@
-use Rattle.starlark_columns.proofs.Fronts.{front_filled, front_taken}
+use Rattle.starlark_columns.proofs.ItemsAtFront.{front_filled, front_taken}
 use Rattle.starlark_columns.proofs.row.Row.item.Goals as goal
 
 pub get-requires-clause-filled : goal.get-requires-clause-filled

@@ -1,5 +1,5 @@
 use Rattle.std.proofs.Common.{refl}
-use Rattle.starlark_columns.proofs.Fronts.{front_filled, front_taken}
+use Rattle.starlark_columns.proofs.ItemsAtFront.{front_filled, front_taken}
 use Rattle.starlark_columns.proofs.row.Row.item_mut.Goals as goal
 
 pub get_mut-requires-clause-filled : goal.get_mut-requires-clause-filled

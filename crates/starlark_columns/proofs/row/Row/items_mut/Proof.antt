@@ -1,6 +1,6 @@
--- `items_mut` lends the items at the front, and the cells follow them. Assumes `Logic`.
-use Rattle.starlark_columns.proofs.Walking.{◌≡◌, ◌+◌, ◌-◌, Some, ℕ, ◌*◌, ◌<◌, ◌^◌, Option, List, [], ◌∷◌, map, length, refl, sym, ap, ◌∙◌, arith, w64, GName, ftrue, fsep, fat, flft, full_share, SProp, never, id⊢, ◌⊑◌, fact, tables, inst_fn, a_type, named, ty_ptr, Val, vint, vptr, has_ty, WT, alloc_all, pass_all, free_all, look_at, take_at, give_at, get, get_in, sets, sets_last, env, ‵, raw, ◌⊛◌, some, later, at_ret, ◌$◌, ◌∵◌, !, qed, by, move, keep, use1, split, split3, join, pick, rewrite, fsplit, fsplit3, group, fjoin3, flt_l, await, sem, whole, sub, agg, stop, fld, no_more, and_then, of_opd, first, blocks, exec, returns, enter, layout, layouts, uint_vals, uint_Tells, RattleType, owns, Ptr, in_block, in_a_block, Array, follows, Elements, lends_Elements, MutBor, mut_vals, mut_Tells, MutSlice, slice_ty, slice_val, types_at, heard, nothing, opens, walk_of, El, times_below, after, length-map, proved, leaves, type_size, T, R, items_of, empties, tells, spent, drops, drops_go}
-use Rattle.starlark_columns.proofs.Fronts.{IsFront, with_items, row_is}
+-- `items_mut` lends the items at the front, and the row ends as their loan says. Assumes `Logic`.
+use Rattle.starlark_columns.proofs.LogicNames.{◌≡◌, ◌+◌, ◌-◌, Some, ℕ, ◌*◌, ◌<◌, ◌^◌, Option, List, [], ◌∷◌, map, length, refl, sym, ap, ◌∙◌, arith, w64, GName, ftrue, fsep, fat, flft, full_share, SProp, never, id⊢, ◌⊑◌, fact, tables, inst_fn, a_type, named, ty_ptr, Val, vint, vptr, has_ty, WT, alloc_all, pass_all, free_all, look_at, take_at, give_at, get, get_in, sets, sets_last, env, ‵, raw, ◌⊛◌, some, later, at_ret, ◌$◌, ◌∵◌, !, qed, by, move, keep, use1, split, split3, join, pick, rewrite, fsplit, fsplit3, group, fjoin3, flt_l, await, sem, whole, sub, agg, stop, fld, no_more, and_then, of_opd, first, blocks, exec, returns, enter, layout, layouts, uint_vals, uint_Tells, RattleType, owns, Ptr, in_block, in_a_block, Array, follows, Elements, lends_Elements, MutBor, mut_vals, mut_Tells, MutSlice, slice_ty, slice_val, types_at, heard, nothing, opens, walk_of, El, times_below, after, length-map, proved, leaves, type_size, T, R, items_of, empties, tells, spent, drops, drops_go}
+use Rattle.starlark_columns.proofs.ItemsAtFront.{IsFront, with_items, row_is}
 use Rattle.starlark_columns.proofs.RowValues.{word, word_good, address_told, AddressOf, RowOf, cells_owned, Row, cut, of_items, with_cells, Shell, front_shut}
 use Rattle.starlark_columns.specs.contracts.row.Row.items_mut as contract
 use Rattle.starlark_columns.proofs.row.Row.items_mut as routine

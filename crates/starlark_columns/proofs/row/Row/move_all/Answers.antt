@@ -1,6 +1,6 @@
 use Rattle.std.proofs.Common.{◌≡◌, ◌+◌, ◌++◌, ℕ, take, drop, slice_range, length, ap, ◌∙◌, arith}
-use Rattle.starlark_columns.proofs.Slotting.{in_filled, at_item, gone, filled_in, run_items, after_count}
-use Rattle.starlark_columns.proofs.Fronts.{front_full, front_filled, front_gone, front_come, none_at_front}
+use Rattle.starlark_columns.proofs.CellsOfSlots.{in_filled, at_item, gone, filled_in, run_items, after_count}
+use Rattle.starlark_columns.proofs.ItemsAtFront.{front_full, front_filled, front_gone, front_come, none_at_front}
 use Rattle.starlark_columns.proofs.row.Row.move_all.Goals as goal
 
 pub open-slots-requires-clause-any : goal.open-slots-requires-clause-any

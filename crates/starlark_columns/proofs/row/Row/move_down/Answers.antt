@@ -1,5 +1,5 @@
 use Rattle.std.proofs.Common.{◌∙◌, arith}
-use Rattle.starlark_columns.proofs.Slotting.{in_filled, at_item, down}
+use Rattle.starlark_columns.proofs.CellsOfSlots.{in_filled, at_item, down}
 use Rattle.starlark_columns.proofs.row.Row.move_down.Goals as goal
 
 pub open-slots-requires-clause-any : goal.open-slots-requires-clause-any

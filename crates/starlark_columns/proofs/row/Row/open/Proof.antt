@@ -1,5 +1,5 @@
--- `open` hands the cells over to slots, with the default for an item where there is none. Assumes `Logic`.
-use Rattle.starlark_columns.proofs.Walking.{◌≡◌, ℕ, ◌*◌, ◌<◌, ◌^◌, Bool, List, [], ◌∷◌, map, length, refl, sym, subst, ◌∙◌, lit<, w64, zero-mul, ftrue, fat, flft, full_share, SProp, never, id⊢, ◌⊑◌, fact, tables, inst_fn, a_type, named, Val, vint, vptr, WT, alloc_all, pass_all, free_all, look_at, take_at, give_at, get, get_in, is, sets, lands_last, env, ‵, raw, ◌⊛◌, some, given, later, at_ret, ◌$◌, ◌∵◌, !, qed, by, move, keep, use1, use2, split, split3, join, pick, learn, rewrite, fsplit, fsplit3, fjoin, fjoin3, feq_i, flt_i, flt_l, await, whole, sub, stop, fld, no_more, and_then, of_opd, first, blocks, exec, returns, enter, usize, yes, no, layout, layouts, uint_vals, uint_Tells, RattleType, owns, Ptr, in_block, in_a_block, mut_vals, mut_Tells, plain, types_at, heard, nothing, opens, closes, calls_at_last, framed, Stays, stay_dropped, stay_ref, walk_of, Goes-dropped, Goes-ref, El, after, Sr, row_val, slots_items, slots_filled, slots_ptr, slots_len, length-map, unwrap_or, is_some, proved, leaves, type_size, R, tells, spent}
+-- `open` gives the memory of the cells to slots, where the slot of an empty cell holds a default. Assumes `Logic`.
+use Rattle.starlark_columns.proofs.LogicNames.{◌≡◌, ℕ, ◌*◌, ◌<◌, ◌^◌, Bool, List, [], ◌∷◌, map, length, refl, sym, subst, ◌∙◌, lit<, w64, zero-mul, ftrue, fat, flft, full_share, SProp, never, id⊢, ◌⊑◌, fact, tables, inst_fn, a_type, named, Val, vint, vptr, WT, alloc_all, pass_all, free_all, look_at, take_at, give_at, get, get_in, is, sets, lands_last, env, ‵, raw, ◌⊛◌, some, given, later, at_ret, ◌$◌, ◌∵◌, !, qed, by, move, keep, use1, use2, split, split3, join, pick, learn, rewrite, fsplit, fsplit3, fjoin, fjoin3, feq_i, flt_i, flt_l, await, whole, sub, stop, fld, no_more, and_then, of_opd, first, blocks, exec, returns, enter, usize, yes, no, layout, layouts, uint_vals, uint_Tells, RattleType, owns, Ptr, in_block, in_a_block, mut_vals, mut_Tells, plain, types_at, heard, nothing, opens, closes, calls_at_last, framed, Stays, stay_dropped, stay_ref, walk_of, Goes-dropped, Goes-ref, El, after, Sr, row_val, slots_items, slots_filled, slots_ptr, slots_len, length-map, unwrap_or, is_some, proved, leaves, type_size, R, tells, spent}
 use Rattle.core.proofs.slots.Slots.from_raw_parts.Met as callee
 use Rattle.starlark_columns.proofs.RowValues.{word, word_good, address_told, AddressOf, RowOf, cells_owned, row_owned, to_slots, cells_back, held, From, at_from, Made, from_goes, from_gives, parts_typed, cells_of}
 use Rattle.starlark_columns.specs.contracts.row.Row.open as contract

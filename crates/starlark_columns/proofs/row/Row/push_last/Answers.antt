@@ -1,5 +1,5 @@
 use Rattle.std.proofs.Common.{rules}
-use Rattle.starlark_columns.proofs.Fronts.{front_pushed}
+use Rattle.starlark_columns.proofs.ItemsAtFront.{front_pushed}
 use Rattle.starlark_columns.proofs.row.Row.push_last.Goals as goal
 
 pub returns : goal.returns

@@ -1,6 +1,6 @@
 use Rattle.std.proofs.Common.{arith, rules}
 use Rattle.std.proofs.lemmas.Grind.{common_steps}
-use Rattle.starlark_columns.proofs.Fronts.{front_filled, front_taken, rest_filled, front_removed}
+use Rattle.starlark_columns.proofs.ItemsAtFront.{front_filled, front_taken, rest_filled, front_removed}
 use Rattle.starlark_columns.proofs.row.Row.remove_at.Goals as goal
 
 pub take-item-requires-clause-filled : goal.take-item-requires-clause-filled

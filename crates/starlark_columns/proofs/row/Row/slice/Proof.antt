@@ -1,5 +1,5 @@
 -- `slice` shows a run of items that the cells lend. Assumes `Logic`.
-use Rattle.starlark_columns.proofs.Walking.{◌≡◌, ◌+◌, ◌-◌, Some, ℕ, ◌*◌, ◌<◌, ◌^◌, Option, List, [], ◌∷◌, map, length, refl, sym, ap, subst, ◌∙◌, arith, w64, ftrue, fat, flft, full_share, SProp, never, id⊢, ◌⊑◌, fact, tables, inst_fn, a_type, named, ty_ptr, Val, vint, vptr, has_ty, WT, alloc_all, pass_all, free_all, look_at, take_at, give_at, get, get_in, is, sets, sets_last, env, ‵, raw, ◌⊛◌, at_ret, ◌$◌, ◌∵◌, !, qed, by, move, keep, use1, split, rewrite, fsplit, fjoin, feq_i, flt_i, flt_l, whole, sub, agg, stop, bin, size_word, fld, no_more, and_then, of_opd, first, blocks, exec, returns, enter, layout, layouts, uint_vals, uint_Tells, RattleType, owns, Ptr, in_a_block, hide, unhide, shr_vals, shr_Tells, ShrSlice, slice_ty, slice_val, elements_shared, types_at, heard, walk_of, El, times_below, uncapped, after, length-map, proved, leaves, type_size, slice_range, T, R, AreFilled, tells, spent, drops, drops_go}
+use Rattle.starlark_columns.proofs.LogicNames.{◌≡◌, ◌+◌, ◌-◌, Some, ℕ, ◌*◌, ◌<◌, ◌^◌, Option, List, [], ◌∷◌, map, length, refl, sym, ap, subst, ◌∙◌, arith, w64, ftrue, fat, flft, full_share, SProp, never, id⊢, ◌⊑◌, fact, tables, inst_fn, a_type, named, ty_ptr, Val, vint, vptr, has_ty, WT, alloc_all, pass_all, free_all, look_at, take_at, give_at, get, get_in, is, sets, sets_last, env, ‵, raw, ◌⊛◌, at_ret, ◌$◌, ◌∵◌, !, qed, by, move, keep, use1, split, rewrite, fsplit, fjoin, feq_i, flt_i, flt_l, whole, sub, agg, stop, bin, size_word, fld, no_more, and_then, of_opd, first, blocks, exec, returns, enter, layout, layouts, uint_vals, uint_Tells, RattleType, owns, Ptr, in_a_block, hide, unhide, shr_vals, shr_Tells, ShrSlice, slice_ty, slice_val, elements_shared, types_at, heard, walk_of, El, times_below, uncapped, after, length-map, proved, leaves, type_size, slice_range, T, R, AreFilled, tells, spent, drops, drops_go}
 use Rattle.starlark_columns.proofs.RowValues.{word, word_good, address_told, AddressOf, RowOf, within_lent, run_seen, range_long}
 use Rattle.starlark_columns.specs.contracts.row.Row.slice as contract
 use Rattle.starlark_columns.proofs.row.Row.slice as routine

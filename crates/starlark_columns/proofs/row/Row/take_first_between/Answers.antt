@@ -1,5 +1,5 @@
 use Rattle.std.proofs.Common.{rules}
-use Rattle.starlark_columns.proofs.Betweens.{first_taken}
+use Rattle.starlark_columns.proofs.ItemsBetween.{first_taken}
 use Rattle.starlark_columns.proofs.row.Row.take_first_between.Goals as goal
 
 pub returns : goal.returns

@@ -1,5 +1,5 @@
 use Rattle.std.proofs.Common.{◌+◌, refl, arith, rules}
-use Rattle.starlark_columns.proofs.Fronts.{last_taken}
+use Rattle.starlark_columns.proofs.ItemsAtFront.{last_taken}
 use Rattle.starlark_columns.proofs.row.Row.take_last.Goals as goal
 
 pub returns : goal.returns

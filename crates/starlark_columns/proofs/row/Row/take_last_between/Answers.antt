@@ -1,5 +1,5 @@
 use Rattle.std.proofs.Common.{◌+◌, refl, rules}
-use Rattle.starlark_columns.proofs.Betweens.{last_filled, last_taken_between}
+use Rattle.starlark_columns.proofs.ItemsBetween.{last_filled, last_taken_between}
 use Rattle.starlark_columns.proofs.row.Row.take_last_between.Goals as goal
 
 pub take-requires-clause-filled : goal.take-requires-clause-filled

@@ -1,5 +1,5 @@
 use Rattle.std.proofs.Common.{◌≡◌, ◌-◌, ◌≤◌, length, take}
-use Rattle.starlark_columns.proofs.Fronts.{IsFront, items_of}
+use Rattle.starlark_columns.proofs.ItemsAtFront.{IsFront, items_of}
 use Rattle.starlark_columns.proofs.row.Row.truncate.Given as goal
 
 abbrev pub invariant-loop-left : goal.invariant-loop-left

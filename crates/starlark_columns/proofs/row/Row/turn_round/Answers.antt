@@ -1,4 +1,4 @@
-use Rattle.starlark_columns.proofs.Fronts.{written_front}
+use Rattle.starlark_columns.proofs.ItemsAtFront.{written_front}
 use Rattle.starlark_columns.proofs.row.Row.turn_round.Goals as goal
 
 pub returns-clause-front : goal.returns-clause-front

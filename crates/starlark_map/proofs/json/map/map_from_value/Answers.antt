@@ -1,6 +1,6 @@
 use Rattle.starlark_hash.proofs.Common.{sym, ap, ◌∙◌, rules, option_and_then}
 use Rattle.starlark_map.specs.JsonObjects.{entries_of_members}
-use Rattle.starlark_map.proofs.InOrder.{made_of_members, made_ascends}
+use Rattle.starlark_map.proofs.AscendingMembers.{made_of_members, made_ascends}
 use Rattle.starlark_map.proofs.json.map.map_from_value.Goals as goal
 
 pub returns-clause-entries : goal.returns-clause-entries

@@ -6,7 +6,7 @@ use Rattle.starlark_map.specs.JsonTexts.{text_entries}
 use Rattle.starlark_map.specs.declared.json.fault.JsonFault.{JsonFault}
 use Rattle.starlark_map.proofs.json.map.map_from_value.Given as goal
 
--- what is left, inserted into what was read, is the whole, and what is left fails as the whole does
+-- inserting what is left into what was read gives the whole, and what is left fails as the whole does
 abbrev pub invariant-loop-key : goal.invariant-loop-key
 invariant-loop-key l =
     (option_map (insert_all bytes_eq (text_entries l.map.entries)) (entries_of_members (members_view l.key-iterator)) ≡ option_map (insert_all bytes_eq []) (entries_of_members (members_view l.initial.key-iterator)))

@@ -3,7 +3,7 @@ use Rattle.serde_json.specs.Data.{object}
 use Rattle.serde_json.specs.Find.{get}
 use Rattle.starlark_hash.specs.Entries.{pair_of}
 use Rattle.starlark_map.specs.JsonTexts.{text_pairs_of}
-use Rattle.starlark_map.proofs.Writing.{all_put, get_member-put_all}
+use Rattle.starlark_map.proofs.JsonWrites.{all_put, get_member-put_all}
 use Rattle.starlark_map.proofs.json.map.map_to_value.Goals as goal
 
 pub returns-clause-object : goal.returns-clause-object

@@ -1,7 +1,7 @@
 use Rattle.starlark_hash.proofs.Common.{◌≡◌, rules, to_z-of_z, w64}
 use Rattle.serde_json.specs.View.{view}
 use Rattle.serde_json.proofs.Views.{members_view-insert_entry}
-use Rattle.starlark_map.proofs.Writing.{integer}
+use Rattle.starlark_map.proofs.JsonWrites.{integer}
 use Rattle.starlark_map.proofs.json.map.put_member.Goals as goal
 
 pub returns : goal.returns

@@ -2,7 +2,7 @@ use Rattle.starlark_hash.proofs.Common.{◌≡◌, ap, ◌∙◌, map, rules}
 use Rattle.serde_json.specs.Data.{array}
 use Rattle.serde_json.specs.View.{items_of}
 use Rattle.starlark_hash.specs.Entries.{entry_key}
-use Rattle.starlark_map.proofs.Writing.{all_pushed}
+use Rattle.starlark_map.proofs.JsonWrites.{all_pushed}
 use Rattle.starlark_map.proofs.json.set.set_to_value.Goals as goal
 
 pub returns-clause-array : goal.returns-clause-array

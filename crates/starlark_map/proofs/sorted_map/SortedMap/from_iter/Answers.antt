@@ -1,6 +1,6 @@
 use Rattle.starlark_hash.proofs.Common.{[], map, ap, ◌∙◌}
 use Rattle.starlark_small.specs.Collect.{insert_all, own_entry}
-use Rattle.starlark_map.proofs.Ascending.{Ascends-empty}
+use Rattle.starlark_map.proofs.AscendingLists.{Ascends-empty}
 use Rattle.starlark_hash.specs.Hasher.{own_hash}
 use Rattle.starlark_map.proofs.sorted_map.SortedMap.from_iter.Goals as goal
 

@@ -1,5 +1,5 @@
 use Rattle.starlark_small.specs.Map.{own_match}
-use Rattle.starlark_map.proofs.Ascending.{Ascends-with_value}
+use Rattle.starlark_map.proofs.AscendingLists.{Ascends-with_value}
 use Rattle.starlark_map.proofs.sorted_map.SortedMap.get_mut.Goals as goal
 
 pub invariant_of-self-lent : goal.invariant_of-self-lent

@@ -1,7 +1,8 @@
--- `iter_mut` lends the map inside; the sorted map, open over the call, is closed by what that follows. Assumes `Logic`.
-use Rattle.starlark_columns.proofs.Walking.{◌≡◌, refl, ap, ◌∙◌, ◌+◌, ◌<◌, ◌^◌, List, [], ◌∷◌, length, full_share, a_type, dcons, dnil, named, named_lft, inst_fn, Val, SProp, id⊢, ex_e, snd∗, Lft, GName, Share, ftrue, fsep, flft, fauth, sem, ◌⊑◌, fact, tables, framed, proved, leaves, closes_following, ages, bor_new_deep, open_ref, name_new, ‵, raw, ◌⊛◌, some, later, ◌$◌, ◌∵◌, !, qed, by, move, keep, drop, use1, use2, split, split3, join, pick, fsplit, fsplit3, fjoin, fjoin3, fpack, feq_i, await, group, stop, fld, addr, and_then, no_more, returns, enter, alloc_all, pass_all, free_all, look_at, get, through, sets, lands_as, follows, shows, RattleType, owns, mem, part_at, param, bounded, param_laws, MutBor, mut_vals, mut_Tells, types_at, nothing, heard, peeks, calls_at, ensured, lasts, triple_of, Contract, walk_of, map, tells, spent, drops, drops_go}
+-- `iter_mut` lends the ordered map. The sorted map is open during the call, and is closed by what the ordered map ends as.
+-- Assumes `Logic`.
+use Rattle.starlark_columns.proofs.LogicNames.{◌≡◌, refl, ap, ◌∙◌, ◌+◌, ◌<◌, ◌^◌, List, [], ◌∷◌, length, full_share, a_type, dcons, dnil, named, named_lft, inst_fn, Val, SProp, id⊢, ex_e, snd∗, Lft, GName, Share, ftrue, fsep, flft, fauth, sem, ◌⊑◌, fact, tables, framed, proved, leaves, closes_following, ages, bor_new_deep, open_ref, name_new, ‵, raw, ◌⊛◌, some, later, ◌$◌, ◌∵◌, !, qed, by, move, keep, drop, use1, use2, split, split3, join, pick, fsplit, fsplit3, fjoin, fjoin3, fpack, feq_i, await, group, stop, fld, addr, and_then, no_more, returns, enter, alloc_all, pass_all, free_all, look_at, get, through, sets, lands_as, follows, shows, RattleType, owns, mem, part_at, param, bounded, param_laws, MutBor, mut_vals, mut_Tells, types_at, nothing, heard, peeks, calls_at, ensured, lasts, triple_of, Contract, walk_of, map, tells, spent, drops, drops_go}
 use base.Share
-use Rattle.starlark_columns.proofs.Steps.{good_value}
+use Rattle.starlark_columns.proofs.ProofSteps.{good_value}
 use Rattle.starlark_hash.specs.Entries.{pair_of}
 use Rattle.starlark_vec2.proofs.pairs_mut.PairsMut.TheLaws as pairs_laws
 use Rattle.starlark_vec2.specs.contracts.pairs_mut.PairsMut as pairs
@@ -13,8 +14,8 @@ use Rattle.starlark_small.proofs.KeptInWalks.{keeps-all_but_values}
 use Rattle.starlark_sets.specs.contracts.ordered_map.OrderedMap.iter_mut as g
 use Rattle.starlark_sets.proofs.ordered_map.OrderedMap.iter_mut.Met as walks
 use Rattle.starlark_map.specs.contracts.sorted_map.SortedMap.iter_mut as contract
-use Rattle.starlark_map.proofs.Ascending.{Ascends-with_values}
-use Rattle.starlark_map.proofs.SortedMapOpen as O
+use Rattle.starlark_map.proofs.AscendingLists.{Ascends-with_values}
+use Rattle.starlark_map.proofs.SortedMapFields as O
 use Rattle.starlark_map.proofs.sorted_map.SortedMap.iter_mut as routine
 
 pub iter_mut_spec : {M : Type 1} → routine.Statement.statement M
@@ -22,7 +23,7 @@ iter_mut_spec 𝓤 𝓛 𝓜 𝓡 wired A B LA LB N dN E dE P dP L dL G dG is_or
     let 𝓣 = tables 𝓤 𝓛.H 𝓜 𝓡 𝓡.env in let En = contract.ended A B N dN E dE P dP L dL G dG in let hs = drops En in
     let inst = bounded (a_type ∷ a_type ∷ []) (A, (B, tt)) (dcons dN (dcons dE (dcons dP (dcons dL (dcons dG dnil))))) in let fn = inst_fn inst routine.Code.function in
     let c = contract.clauses A B N dN E dE P dP L dL G dG 𝓛 𝓜.mem 𝓡.returns in let K : RattleType = param 0 A in let V : RattleType = param 1 B in let LK = param_laws 0 A LA in let LV = param_laws 1 B LB in
-    let W : RattleType = O.W K V N P L G in let CP : RattleType = O.CP K V N P L G in let D : Type 0 = O.D K V N P L G in let Inner : RattleType = small.the_row K V P in let Rep : Type 0 = Map A.Denot B.Denot in
+    let W : RattleType = O.Whole K V N P L G in let MapRow : RattleType = O.MapRow K V N P L G in let D : Type 0 = O.Fields K V N P L G in let Inner : RattleType = small.the_row K V P in let Rep : Type 0 = Map A.Denot B.Denot in
     -- the map with the values of w
     let with : Rep → Rep → Rep = λ m w. record m { entries = with_values m.entries w.entries } in
     let Run : Contract 𝓤 = triple_of 𝓛 (g.signature A B E dE P dP) (g.spec A B E dE P dP 𝓛 𝓜.mem 𝓡.returns) in
@@ -39,11 +40,11 @@ iter_mut_spec 𝓤 𝓛 𝓜 𝓡 wired A B LA LB N dN E dE P dP L dL G dG is_or
     sets ! (addr ! (through ! refl (fld ! refl (stop !)))) refl (tt, tt) $
     -- half of κ's token opens the map, and half goes into the call
     use1 𝓛 (‵ (flft κ (Share.left q)) ⊛ ‵ (flft κ (Share.right q))) (𝓛.lfts.lft_split κ q) $ split ! $ move ! (2 ∷ []) $ fsplit3 ! $ drop ! $ move ! (0 ∷ 1 ∷ 2 ∷ []) $ open_ref ! tt (mem W) {b = b} {o = o} $
-    use1 𝓛 (some (λ (d : (d : D) × O.Known K V N P L G v d). raw (O.Cuts K V N P L G 𝓛 b o v d))) (O.cut K V N P L G 𝓛 b o LK LV v) $ pick ! (λ d'.
-    let d = d'.0 in let m = d.map in let place = o + O.eP K V N P L G in let Rest : SProp 𝓤 = O.Rest K V N P L G 𝓛 b o d in
-    use1 𝓛 (‵ (part_at CP full_share m b place) ⊛ raw Rest) (id⊢ 𝓤 _) $ split ! $
-    -- [the map inside; the rest; the open borrow; obs; auth; the other half; the tokens of κA, κB; nothing]
-    name_new ! tt (CP.coded.code m) (λ δ. move ! (2 ∷ 1 ∷ []) $ fjoin ! $ fpack ! CP.Denot (λ z. fsep ((mem CP).own_at z b place) (fauth δ (CP.coded.code z))) m $
+    use1 𝓛 (some (λ (d : (d : D) × O.AreFieldsOf K V N P L G v d). raw (O.Parts K V N P L G 𝓛 b o v d))) (O.take_apart K V N P L G 𝓛 b o LK LV v) $ pick ! (λ d'.
+    let d = d'.0 in let m = d.map in let place = o + O.map_offset K V N P L G in let Rest : SProp 𝓤 = O.Rest K V N P L G 𝓛 b o d in
+    use1 𝓛 (‵ (part_at MapRow full_share m b place) ⊛ raw Rest) (id⊢ 𝓤 _) $ split ! $
+    -- [the ordered map; the rest; the open borrow; obs; auth; the other half; the tokens of κA, κB; nothing]
+    name_new ! tt (MapRow.coded.code m) (λ δ. move ! (2 ∷ 1 ∷ []) $ fjoin ! $ fpack ! MapRow.Denot (λ z. fsep ((mem MapRow).own_at z b place) (fauth δ (MapRow.coded.code z))) m $
     -- [the content; obs δ; the rest; the open borrow; obs; auth; ..]
     move ! (3 ∷ []) $ ages ! (λ n. move ! (1 ∷ []) $ bor_new_deep ! tt n κ $
     -- [the borrow, its right; the open borrow; obs δ; the rest; obs; auth; the other half; the tokens of κA, κB; nothing]
@@ -54,15 +55,15 @@ iter_mut_spec 𝓤 𝓛 𝓜 𝓡 wired A B LA LB N dN E dE P dP L dL G dG is_or
     use1 𝓛 (raw (Run.pre z)) (id⊢ 𝓤 _) $ calls_at ! (framed 𝓤 𝓛.H 𝓜 𝓣) Run met z (and_then ! (get ! refl) (no_more !)) (λ u.
     use1 𝓛 (later (some (λ (x : It.Denot). ((‵ (flft κ (Share.right q)) ⊛ ‵ (flft κA qA) ⊛ ‵ (flft κB qB) ⊛ ‵ ftrue) ⊛ ‵ (It.own_val x (u ∷ [])))
     ⊛ raw (ensured 𝓛 (g.ended A B E dE P dP) (g.clauses A B E dE P dP 𝓛 𝓜.mem 𝓡.returns) z.0.0 z.0.3 tt x)))) (id⊢ 𝓤 _) $ await ! tt $ pick ! (λ x. split ! $ move ! (1 ∷ []) $
-    use1 𝓛 (‵ (follows CP Inner δ x.1 (with m)) ⊛ raw (fact 𝓤 (x.0 ≡ map pair_of m.entries)) ⊛ raw (fact 𝓤 (length m.entries < 2 ^ 64)) ⊛ raw (fact 𝓤 (KeepsAllButValues P.eq m)))
+    use1 𝓛 (‵ (follows MapRow Inner δ x.1 (with m)) ⊛ raw (fact 𝓤 (x.0 ≡ map pair_of m.entries)) ⊛ raw (fact 𝓤 (length m.entries < 2 ^ 64)) ⊛ raw (fact 𝓤 (KeepsAllButValues P.eq m)))
     (ex_e 𝓤 _ (λ ws. snd∗ 𝓤 (sem 𝓛 (lasts (g.ended A B E dE P dP) z.0.0 z.0.3 ws)) _)) $ split3 ! $ move ! (1 ∷ 2 ∷ []) $ heard ! _ (λ pairs. split ! $ heard ! _ (λ fits. drop ! $
-    -- [what the map inside follows; the tokens with the walk; the right; the open borrow; the rest; obs; auth]
+    -- [what the ordered map follows; the tokens with the iterator; the right; the open borrow; the rest; obs; auth]
     move ! (3 ∷ 5 ∷ 6 ∷ 2 ∷ 0 ∷ 4 ∷ []) $ group ! 6 $ use1 𝓛 (later (‵ (flft κ (Share.left q)) ⊛ ‵ (follows W Inner γ x.1 (with v))))
-    (closes_following 𝓛 (mem W) (mem CP) (mem Inner) (with m) (with v) κ (Share.left q) b o b place γ δ x.1 Rest
-    (λ w. O.shut K V N P L G 𝓛 b o (with v w) (record d { map = with m w }) (ap (λ t. with t w) d'.1.0, Ascends-with_values N.cmp m.entries w.entries d'.1.1)) n (W.coded.code v) (W.coded.code v)) $ await ! tt $ split ! $
-    -- [half of κ's token; what the sorted map follows; the tokens with the walk]
+    (closes_following 𝓛 (mem W) (mem MapRow) (mem Inner) (with m) (with v) κ (Share.left q) b o b place γ δ x.1 Rest
+    (λ w. O.put_together K V N P L G 𝓛 b o (with v w) (record d { map = with m w }) (ap (λ t. with t w) d'.1.0, Ascends-with_values N.cmp m.entries w.entries d'.1.1)) n (W.coded.code v) (W.coded.code v)) $ await ! tt $ split ! $
+    -- [half of κ's token; what the sorted map follows; the tokens with the iterator]
     move ! (2 ∷ []) $ split ! $ split3 ! $ move ! (4 ∷ 0 ∷ []) $ use2 𝓛 (‵ (flft κ q)) (𝓛.lfts.lft_join κ q) $ move ! (2 ∷ []) $ split ! $ move ! (4 ∷ 2 ∷ 3 ∷ 0 ∷ 1 ∷ []) $
-    -- [the walk; the tokens of κ, κA, κB; nothing; what the sorted map follows]
+    -- [the iterator; the tokens of κ, κA, κB; nothing; what the sorted map follows]
     peeks ! It _ (shows 𝓛 It) x (u ∷ []) (λ is. lands_as ! refl refl (good_value 𝓛 It (pairs_laws.the_row_laws lft K V LK LV) x u is) $ returns ! (look_at ! 0 refl) $ free_all ! refl $
     move ! (1 ∷ 2 ∷ 3 ∷ 4 ∷ []) $ group ! 4 $ tells ! (KeepsAllButValues P.eq v) (keeps-all_but_values P.eq v) $ tells ! (length v.entries < 2 ^ 64) (rw (← d'.1.0) fits) $
     tells ! (x.0 ≡ map pair_of v.entries) (pairs ∙ ap (λ (t : Rep). map pair_of t.entries) d'.1.0) $

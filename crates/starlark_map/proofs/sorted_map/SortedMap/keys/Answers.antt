@@ -1,4 +1,4 @@
-use Rattle.starlark_map.proofs.Along.{ascends_along}
+use Rattle.starlark_map.proofs.AscendingKeys.{ascends_along}
 use Rattle.starlark_map.proofs.sorted_map.SortedMap.keys.Goals as goal
 
 pub returns-clause-along : goal.returns-clause-along

@@ -1,5 +1,5 @@
 use Rattle.starlark_hash.proofs.Common.{ap, ◌∙◌}
-use Rattle.starlark_map.proofs.Rising.{elements-of}
+use Rattle.starlark_map.proofs.AscendingUnion.{elements-of}
 use Rattle.starlark_map.proofs.sorted_set.SortedSet.ahead.Goals as goal
 
 pub new-requires-clause-ascends : goal.new-requires-clause-ascends

@@ -1,6 +1,6 @@
 use Rattle.starlark_hash.proofs.Common.{◌≡◌, refl}
-use Rattle.starlark_map.proofs.Along.{along_from}
-use Rattle.starlark_map.proofs.Ascending.{Ascends-clones}
+use Rattle.starlark_map.proofs.AscendingKeys.{along_from}
+use Rattle.starlark_map.proofs.AscendingLists.{Ascends-clones}
 use Rattle.starlark_map.proofs.sorted_set.SortedSet.clone.Goals as goal
 
 pub invariant_of-result : goal.invariant_of-result

@@ -1,7 +1,7 @@
 use Rattle.starlark_hash.proofs.Common.{[], is_some, map, ap, ◌∙◌}
 use Rattle.starlark_small.specs.Collect.{insert_all}
 use Rattle.starlark_sets.specs.Collect.{own_element}
-use Rattle.starlark_map.proofs.Ascending.{Ascends-empty}
+use Rattle.starlark_map.proofs.AscendingLists.{Ascends-empty}
 use Rattle.starlark_hash.specs.Hasher.{own_hash}
 use Rattle.starlark_map.proofs.sorted_set.SortedSet.from_iter.Goals as goal
 

@@ -1,6 +1,6 @@
-use Rattle.starlark_map.proofs.Along.{along_from}
-use Rattle.starlark_map.proofs.Ascending.{Ascends-from_strictly}
-use Rattle.starlark_map.proofs.InsertedInOrder.{extended, insert_all-strictly}
+use Rattle.starlark_map.proofs.AscendingKeys.{along_from}
+use Rattle.starlark_map.proofs.AscendingLists.{Ascends-from_strictly}
+use Rattle.starlark_map.proofs.AscendingInsertions.{extended, insert_all-strictly}
 use Rattle.starlark_map.proofs.sorted_set.SortedSet.from_sorted_vec.Goals as goal
 
 pub returns-clause-entries : goal.returns-clause-entries

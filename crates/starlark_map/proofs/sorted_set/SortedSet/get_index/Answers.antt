@@ -1,5 +1,5 @@
-use Rattle.starlark_map.proofs.Along.{least_at}
-use Rattle.starlark_map.proofs.Ascending.{Ascends-strictly}
+use Rattle.starlark_map.proofs.AscendingKeys.{least_at}
+use Rattle.starlark_map.proofs.AscendingLists.{Ascends-strictly}
 use Rattle.starlark_map.proofs.sorted_set.SortedSet.get_index.Goals as goal
 
 pub returns-clause-least : goal.returns-clause-least

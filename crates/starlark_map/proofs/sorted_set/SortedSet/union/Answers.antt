@@ -3,8 +3,8 @@ use Rattle.std.proofs.iter.runs.Sources.{from_front}
 use Rattle.starlark_sets.proofs.Differences.{length-difference-le}
 use Rattle.starlark_sets.specs.Union.{union}
 use Rattle.starlark_map.specs.SortedUnion.{RiseSteps, rise, rise_rest}
-use Rattle.starlark_map.proofs.Ascending.{Ascends-strictly, sorted_ascends}
-use Rattle.starlark_map.proofs.Rising.{gives-rise, length-rest, rise-own, rise-single}
+use Rattle.starlark_map.proofs.AscendingLists.{Ascends-strictly, sorted_ascends}
+use Rattle.starlark_map.proofs.AscendingUnion.{gives-rise, length-rest, rise-own, rise-single}
 use Rattle.starlark_map.proofs.sorted_set.SortedSet.union.Goals as goal
 
 pub returns-clause-single : goal.returns-clause-single

@@ -1,4 +1,4 @@
-use Rattle.starlark_map.proofs.Ascending.{IsSorted-clones}
+use Rattle.starlark_map.proofs.AscendingLists.{IsSorted-clones}
 use Rattle.starlark_map.proofs.sorted_vec.SortedVec.clone.Goals as goal
 
 pub invariant_of-result : goal.invariant_of-result

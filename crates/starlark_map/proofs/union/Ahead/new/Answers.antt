@@ -1,7 +1,7 @@
 use Rattle.starlark_hash.proofs.Common.{ap, length, sym, subst, arith, length-map}
 use Rattle.starlark_hash.specs.Entries.{IsSingle}
 use Rattle.starlark_hash.specs.Sort.{Ascends}
-use Rattle.starlark_map.proofs.Rising.{ahead-of}
+use Rattle.starlark_map.proofs.AscendingUnion.{ahead-of}
 use Rattle.starlark_map.proofs.union.Ahead.new.Goals as goal
 
 pub invariant_of-result : goal.invariant_of-result

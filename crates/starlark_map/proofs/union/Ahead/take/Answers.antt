@@ -3,8 +3,8 @@ use Rattle.starlark_hash.specs.Entries.{IsSingle}
 use Rattle.starlark_hash.specs.Sort.{Ascends}
 use Rattle.starlark_sets.proofs.Differences.{IsSingle-tail}
 use Rattle.starlark_map.specs.SortedUnion.{ahead, elements_under, shown_element}
-use Rattle.starlark_map.proofs.Along.{Ascends-tail}
-use Rattle.starlark_map.proofs.Rising.{ahead-of}
+use Rattle.starlark_map.proofs.AscendingKeys.{Ascends-tail}
+use Rattle.starlark_map.proofs.AscendingUnion.{ahead-of}
 use Rattle.starlark_map.proofs.union.Ahead.take.Goals as goal
 
 pub invariant_of-self : goal.invariant_of-self

@@ -1,4 +1,4 @@
-use Rattle.starlark_map.proofs.Given.{Follows-taken}
+use Rattle.starlark_map.proofs.UnionLookup.{Follows-taken}
 use Rattle.starlark_map.proofs.union.SortedUnion.take_own.Goals as goal
 
 pub invariant_of-self-2 : goal.invariant_of-self-2

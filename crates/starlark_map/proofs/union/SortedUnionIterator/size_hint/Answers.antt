@@ -1,7 +1,7 @@
 use Rattle.starlark_hash.proofs.Common.{length, ap, arith}
 use Rattle.starlark_sets.proofs.Differences.{length-difference, length-difference-le}
 use Rattle.starlark_map.specs.SortedUnion.{SortedUnion, rise_rest}
-use Rattle.starlark_map.proofs.Rising.{length-rest}
+use Rattle.starlark_map.proofs.AscendingUnion.{length-rest}
 use Rattle.starlark_map.proofs.union.SortedUnionIterator.size_hint.Goals as goal
 
 pub returns-clause-lower : goal.returns-clause-lower

@@ -1,4 +1,4 @@
-use Rattle.starlark_table.proofs.Filling.{filled-past_range}
+use Rattle.starlark_table.proofs.FilledSlots.{filled-past_range}
 use Rattle.starlark_table.proofs.FullBits.{window_done}
 use Rattle.starlark_table.proofs.ahead.Ahead.open.Goals as goal
 

@@ -1,6 +1,6 @@
 use Rattle.starlark_hash.proofs.Common.{◌+◌, ◌∙◌, refl, arith, rules, count_trailing_zeros}
-use Rattle.starlark_table.proofs.Filling.{filled-first_behind, filled-past_range}
-use Rattle.starlark_table.proofs.Closing.{full_in_range}
+use Rattle.starlark_table.proofs.FilledSlots.{filled-first_behind, filled-past_range}
+use Rattle.starlark_table.proofs.BackwardShift.{full_in_range}
 use Rattle.starlark_table.proofs.FullBits.{window_next}
 use Rattle.starlark_table.proofs.TagCount.{long_tags}
 use Rattle.starlark_table.proofs.ahead.Ahead.step.Goals as goal

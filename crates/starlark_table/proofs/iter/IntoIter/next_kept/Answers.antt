@@ -1,9 +1,9 @@
 use Rattle.starlark_hash.proofs.Common.{length, None, arith, ◌∙◌, ap, refl, set, length-set, get_or-set_other}
-use Rattle.starlark_table.proofs.Closing.{full_in_range}
+use Rattle.starlark_table.proofs.BackwardShift.{full_in_range}
 use Rattle.starlark_table.proofs.FullBits.{window_alike}
-use Rattle.starlark_table.proofs.Filling.{filled-past_front, filled-first_taken, empty-joined, empty-after_taken}
+use Rattle.starlark_table.proofs.FilledSlots.{filled-past_front, filled-first_taken, empty-joined, empty-after_taken}
 use Rattle.starlark_table.proofs.TagCount.{doubled-alike, refilled}
-use Rattle.starlark_table.proofs.Tagged.{tagged-changed}
+use Rattle.starlark_table.proofs.SlotTags.{tagged-changed}
 use Rattle.starlark_table.proofs.iter.IntoIter.next_kept.Goals as goal
 
 pub step-slot-requires-clause-some : goal.step-slot-requires-clause-some

@@ -1,4 +1,4 @@
-use Rattle.starlark_table.proofs.Marked.{next-full}
+use Rattle.starlark_table.proofs.LentSlots.{next-full}
 use Rattle.starlark_table.proofs.loan.Loan.take.Goals as goal
 
 pub take_pair-item-requires-clause-full : goal.take_pair-item-requires-clause-full

@@ -1,4 +1,4 @@
-use Rattle.starlark_table.proofs.Marked.{next-full}
+use Rattle.starlark_table.proofs.LentSlots.{next-full}
 use Rattle.starlark_table.proofs.loan.PairLoan.take.Goals as goal
 
 pub take_value-requires-clause-full : goal.take_value-requires-clause-full

@@ -2,7 +2,7 @@ use Rattle.starlark_hash.proofs.Common.{◌≡◌, ◌+◌, length}
 use Rattle.starlark_table.specs.Table.{filled, items_in}
 use Rattle.starlark_table.proofs.pairs_mut.PairsMutIterator.next.Given as goal
 
--- only empty slots were passed over
+-- the iterator has passed over empty slots only
 abbrev pub invariant-loop-self : goal.invariant-loop-self
 invariant-loop-self g l =
     (l.self-inside.slot ≡ l.self-inside.loan.from) × (l.self-inside.end ≡ l.self-inside.loan.from + length l.self-inside.loan.rest)

@@ -1,6 +1,6 @@
 use Rattle.starlark_hash.proofs.Common.{ap, arith, length}
 use Rattle.starlark_table.proofs.Load.{sound-empty_slot}
-use Rattle.starlark_table.proofs.Searching.{searches_no_slots}
+use Rattle.starlark_table.proofs.EmptySearch.{searches_no_slots}
 use Rattle.starlark_table.proofs.ready_table.ReadyTable.find.Goals as goal
 
 pub find_slot-requires-clause-free : goal.find_slot-requires-clause-free

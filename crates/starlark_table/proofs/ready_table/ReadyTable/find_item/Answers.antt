@@ -1,5 +1,5 @@
 use Rattle.starlark_hash.proofs.Common.{None, arith, refl}
-use Rattle.starlark_table.proofs.Searching.{searches_no_slots}
+use Rattle.starlark_table.proofs.EmptySearch.{searches_no_slots}
 use Rattle.starlark_table.proofs.ready_table.ReadyTable.find_item.Goals as goal
 
 pub returns-then-slots-eq0 : goal.returns-then-slots-eq0

@@ -1,7 +1,7 @@
 use Rattle.starlark_hash.proofs.Common.{IsSome, sym, subst}
 use Rattle.starlark_table.specs.Table.{member_at}
 use Rattle.starlark_table.specs.Layout.{at}
-use Rattle.starlark_table.proofs.Filling.{filled-by_some}
+use Rattle.starlark_table.proofs.FilledSlots.{filled-by_some}
 use Rattle.starlark_table.proofs.Shape.{sound-written}
 use Rattle.starlark_table.proofs.ready_table.ReadyTable.get_unchecked_mut.Goals as goal
 

@@ -1,5 +1,5 @@
 use Rattle.starlark_hash.proofs.Common.{ap, length, ◌∙◌}
-use Rattle.starlark_table.proofs.Changing.{inserted}
+use Rattle.starlark_table.proofs.TableChanges.{inserted}
 use Rattle.starlark_table.proofs.ready_table.ReadyTable.insert_at.Goals as goal
 
 pub invariant_of-self : goal.invariant_of-self

@@ -1,5 +1,5 @@
 use Rattle.starlark_hash.proofs.Common.{ap, length, ◌∙◌}
-use Rattle.starlark_table.proofs.Changing.{inserted, slot_for_one}
+use Rattle.starlark_table.proofs.TableChanges.{inserted, slot_for_one}
 use Rattle.starlark_table.proofs.ready_table.ReadyTable.insert_reserved.Goals as goal
 
 pub put-slot-requires-clause-free : goal.put-slot-requires-clause-free

@@ -1,8 +1,8 @@
 use Rattle.starlark_hash.proofs.Common.{IsSome, ap, length, subst, sym, ◌∙◌}
 use Rattle.starlark_table.specs.Table.{member_at}
 use Rattle.starlark_table.specs.Layout.{at}
-use Rattle.starlark_table.proofs.Changing.{removed}
-use Rattle.starlark_table.proofs.Filling.{filled-by_some}
+use Rattle.starlark_table.proofs.TableChanges.{removed}
+use Rattle.starlark_table.proofs.FilledSlots.{filled-by_some}
 use Rattle.starlark_table.proofs.ready_table.ReadyTable.remove_followed.Goals as goal
 
 pub take_out-member-requires-clause-full : goal.take_out-member-requires-clause-full

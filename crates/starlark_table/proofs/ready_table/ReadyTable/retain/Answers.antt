@@ -1,8 +1,8 @@
 use Rattle.starlark_hash.proofs.Common.{ap, length, ◌∙◌, arith, length_permutation}
 use Rattle.starlark_table.specs.Table.{filled}
 use Rattle.starlark_table.specs.Walk.{AsksMember}
-use Rattle.starlark_table.proofs.Changing.{some_kept}
-use Rattle.starlark_table.proofs.Retaining.{length-retained}
+use Rattle.starlark_table.proofs.TableChanges.{some_kept}
+use Rattle.starlark_table.proofs.RetainPass.{length-retained}
 use Rattle.starlark_table.proofs.ready_table.ReadyTable.retain.Goals as goal
 
 pub invariant_of-self : goal.invariant_of-self

@@ -1,5 +1,5 @@
 use Rattle.starlark_hash.proofs.Common.{rules, length, ap, ◌∙◌}
-use Rattle.starlark_table.proofs.Changing.{taken_in}
+use Rattle.starlark_table.proofs.TableChanges.{taken_in}
 use Rattle.starlark_table.proofs.ready_table.ReadyTable.take_members.Goals as goal
 
 pub invariant_of-self : goal.invariant_of-self

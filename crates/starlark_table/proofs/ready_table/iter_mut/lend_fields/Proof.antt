@@ -1,12 +1,12 @@
--- `lend_fields` meets its contract: two calls, each of which says what its parameter ends as. Assumes `Logic`.
-use Rattle.starlark_columns.proofs.Walking.{◌≡◌, refl, ℕ, List, [], ◌∷◌, a_type, dcons, dnil, named, named_lft, inst_fn, Val, vstruct, vcons, vnil, SProp, id⊢, ex_e, snd∗, Lft, Share, ftrue, flft, sem, ◌⊑◌, fact, tables, ‵, raw, ◌⊛◌, some, later, ◌$◌, ◌∵◌, !, qed, by, move, keep, use1, use2, split, split3, join, pick, fsplit3, fjoin, group, await, agg, stop, addr, and_then, no_more, returns, enter, alloc_all, pass_all, free_all, look_at, get, through, sets, lands_as, shows, param, bounded, param_laws, RattleType, owns, Bor, MutBor, ShrRef, mut_vals, mut_Tells, types_at, nothing, heard, peeks, Tuple, tuple_laws, calls_at, ensured, lasts, triple_of, Contract, framed, walk_of, proved, leaves, copied, copied_laws, tells, spent, drops, drops_go, toks}
+-- `lend_fields` meets its contract: it makes two calls, each of which says what its parameter ends as. Assumes `Logic`.
+use Rattle.starlark_columns.proofs.LogicNames.{◌≡◌, refl, ℕ, List, [], ◌∷◌, a_type, dcons, dnil, named, named_lft, inst_fn, Val, vstruct, vcons, vnil, SProp, id⊢, ex_e, snd∗, Lft, Share, ftrue, flft, sem, ◌⊑◌, fact, tables, ‵, raw, ◌⊛◌, some, later, ◌$◌, ◌∵◌, !, qed, by, move, keep, use1, use2, split, split3, join, pick, fsplit3, fjoin, group, await, agg, stop, addr, and_then, no_more, returns, enter, alloc_all, pass_all, free_all, look_at, get, through, sets, lands_as, shows, param, bounded, param_laws, RattleType, owns, Bor, MutBor, ShrRef, mut_vals, mut_Tells, types_at, nothing, heard, peeks, Tuple, tuple_laws, calls_at, ensured, lasts, triple_of, Contract, framed, walk_of, proved, leaves, copied, copied_laws, tells, spent, drops, drops_go, toks}
 use Rattle.starlark_columns.specs.Loan.{cells_follow}
 use Rattle.starlark_columns.specs.contracts.loan.Loan as loan
 use Rattle.starlark_columns.specs.contracts.column.Column.{the_row as column_row}
 use Rattle.starlark_columns.proofs.loan.Loan.TheLaws as loan_laws
 use Rattle.starlark_columns.proofs.bytes.Bytes.TheLaws as bytes_laws
 use Rattle.starlark_columns.proofs.LentParts.{as_tuple}
-use Rattle.starlark_columns.proofs.Steps.{good_value, shr_laws}
+use Rattle.starlark_columns.proofs.ProofSteps.{good_value, shr_laws}
 use Rattle.starlark_table.specs.contracts.kept_hash.Kept.{the_row as kept_row}
 use Rattle.starlark_table.proofs.kept_hash.Kept.TheLaws as kept_laws
 use Rattle.starlark_table.specs.Lend.{Member, Tags, tags_stay}

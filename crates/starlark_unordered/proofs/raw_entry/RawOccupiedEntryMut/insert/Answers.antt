@@ -1,5 +1,5 @@
 use Rattle.starlark_hash.proofs.Common.{arith, rules, common_steps}
-use Rattle.starlark_unordered.proofs.RawWritten.{value_in_place}
+use Rattle.starlark_unordered.proofs.RawEntryWrites.{value_in_place}
 use Rattle.starlark_unordered.proofs.raw_entry.RawOccupiedEntryMut.insert.Goals as goal
 
 pub returns : goal.returns

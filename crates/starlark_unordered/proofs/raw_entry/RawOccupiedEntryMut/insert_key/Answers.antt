@@ -1,4 +1,4 @@
-use Rattle.starlark_unordered.proofs.RawWritten.{key_in_place, raw_key_put}
+use Rattle.starlark_unordered.proofs.RawEntryWrites.{key_in_place, raw_key_put}
 use Rattle.starlark_unordered.proofs.raw_entry.RawOccupiedEntryMut.insert_key.Goals as goal
 
 pub returns : goal.returns

@@ -1,7 +1,7 @@
 -- `insert` meets its contract, at any types. Assumes `Logic`.
-use Rattle.starlark_columns.proofs.Walking.{◌≡◌, refl, [], ◌∷◌, fact, Ty, a_type, bounded, dcons, dnil, tcons, tnil, ty_struct, RattleType, arg, arg_laws, layout, yes, param, param_laws, None}
+use Rattle.starlark_columns.proofs.LogicNames.{◌≡◌, refl, [], ◌∷◌, fact, Ty, a_type, bounded, dcons, dnil, tcons, tnil, ty_struct, RattleType, arg, arg_laws, layout, yes, param, param_laws, None}
 use Rattle.starlark_unordered.specs.Pairs.{found, pairs_of}
-use Rattle.starlark_unordered.proofs.InsertLent.{Handed, handed_laws, inserts}
+use Rattle.starlark_unordered.proofs.LentInsertion.{Handed, handed_laws, inserts}
 use Rattle.starlark_unordered.proofs.raw_entry.RawVacantEntryMut.place as place
 use Rattle.starlark_unordered.proofs.raw_entry.lend_placed as lend
 use Rattle.starlark_unordered.specs.contracts.raw_entry.RawVacantEntryMut.insert as contract
@@ -10,7 +10,7 @@ use Rattle.starlark_unordered.proofs.raw_entry.RawVacantEntryMut.insert as routi
 pub insert_spec : {M : Type 1} → routine.Statement.statement M
 insert_spec 𝓤 𝓛 𝓜 𝓡 wired K V LK LV E dE P dP G dG is_eq is_partial is_hash =
     let Key : RattleType = param 0 K in let LKey = param_laws 0 K LK in let ds = dcons dE (dcons dP (dcons dG dnil)) in let args = bounded (a_type ∷ a_type ∷ []) (K, (V, tt)) ds in
-    -- the type of what is handed back, as a call passes it: without its names
+    -- the type of what a refusal returns, as a call passes it, without its names
     let nameless : Ty = ty_struct [] (tcons (ty_struct [] (tcons (layout K) (tcons (layout V) tnil))) tnil) in let Passed = arg nameless yes (Handed V Key) in
     inserts K V Key nameless (λ key. key) E dE P dP G dG 𝓛 𝓜 𝓡
     (λ m key. fact 𝓤 (found (P.eq key) (pairs_of m) ≡ None))

@@ -1,11 +1,11 @@
--- `insert_hashed` meets its contract, at any types, as `insert` does its own. Assumes `Logic`.
-use Rattle.starlark_columns.proofs.Walking.{◌≡◌, refl, [], ◌∷◌, sep, fact, Ty, a_type, bounded, dcons, dnil, tcons, tnil, ty_int, ty_struct, w32, RattleType, arg, arg_laws, layout, yes, param, param_laws, None}
+-- `insert_hashed` meets its contract, at any types. Assumes `Logic`.
+use Rattle.starlark_columns.proofs.LogicNames.{◌≡◌, refl, [], ◌∷◌, sep, fact, Ty, a_type, bounded, dcons, dnil, tcons, tnil, ty_int, ty_struct, w32, RattleType, arg, arg_laws, layout, yes, param, param_laws, None}
 use Rattle.starlark_hash.specs.contracts.hashed.Hashed as H
 use Rattle.starlark_hash.proofs.hashed.Hashed.TheLaws as hashed_laws
 use Rattle.starlark_hash.specs.Hasher.{own_hash}
 use Rattle.starlark_hash.specs.HashValue.{hash_of, key_of}
 use Rattle.starlark_unordered.specs.Pairs.{found, pairs_of}
-use Rattle.starlark_unordered.proofs.InsertLent.{Handed, handed_laws, inserts}
+use Rattle.starlark_unordered.proofs.LentInsertion.{Handed, handed_laws, inserts}
 use Rattle.starlark_unordered.proofs.raw_entry.RawVacantEntryMut.place_hashed as place
 use Rattle.starlark_unordered.proofs.raw_entry.lend_placed as lend
 use Rattle.starlark_unordered.specs.contracts.raw_entry.RawVacantEntryMut.insert_hashed as contract
@@ -15,7 +15,7 @@ pub insert_hashed_spec : {M : Type 1} → routine.Statement.statement M
 insert_hashed_spec 𝓤 𝓛 𝓜 𝓡 wired K V LK LV E dE P dP G dG is_eq is_partial is_hash =
     let Key : RattleType = H.the_row (param 0 K) in let LKey = hashed_laws.the_row_laws (param 0 K) (param_laws 0 K LK) in
     let ds = dcons dE (dcons dP (dcons dG dnil)) in let args = bounded (a_type ∷ a_type ∷ []) (K, (V, tt)) ds in
-    -- the type of what is handed back, as a call passes it: without its names
+    -- the type of what a refusal returns, as a call passes it, without its names
     let hashed : Ty = ty_struct [] (tcons (ty_struct [] (tcons (ty_int w32) tnil)) (tcons (layout K) tnil)) in
     let nameless : Ty = ty_struct [] (tcons (ty_struct [] (tcons hashed (tcons (layout V) tnil))) tnil) in let Passed = arg nameless yes (Handed V Key) in
     inserts K V Key nameless key_of E dE P dP G dG 𝓛 𝓜 𝓡

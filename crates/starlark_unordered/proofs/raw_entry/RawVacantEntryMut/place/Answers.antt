@@ -1,5 +1,5 @@
 use Rattle.starlark_hash.proofs.Common.{refl}
-use Rattle.starlark_unordered.proofs.AddedWritten.{puts_pair}
+use Rattle.starlark_unordered.proofs.WrittenInsertion.{puts_pair}
 use Rattle.starlark_unordered.proofs.raw_entry.RawVacantEntryMut.place.Goals as goal
 
 pub returns : goal.returns

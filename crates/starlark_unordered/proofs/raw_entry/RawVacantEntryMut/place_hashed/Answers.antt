@@ -1,7 +1,7 @@
 use Rattle.starlark_hash.proofs.Common.{◌≡◌, ◌∙◌, refl, MutBor}
 use Rattle.starlark_hash.specs.HashValue.{hashed}
 use Rattle.starlark_table.specs.Table.{Table}
-use Rattle.starlark_unordered.proofs.AddedWritten.{puts_pair}
+use Rattle.starlark_unordered.proofs.WrittenInsertion.{puts_pair}
 use Rattle.starlark_unordered.proofs.raw_entry.RawVacantEntryMut.place_hashed.Goals as goal
 use Rattle.starlark_unordered.proofs.raw_entry.RawVacantEntryMut.place_hashed.Goals.{in-Ok, in-Err}
 
@@ -18,7 +18,7 @@ returns g c =
       | in-Err w ↦
           let put = rw w.in-Err.is at put in
           let back = put.handed_back in
-          -- hash and key are put together again, and the value with them
+          -- hash and key form the hashed key again, and the value follows them
           let again : w.new_unchecked.result ≡ c.args.key = w.new_unchecked.ensures ∙ (λ i. hashed (c.hash-hash.ensures i) (back i).0) in
           rw w.placed-is (record { same_map = put.same_map; placed = tt; added = tt; written = tt; full = put.full; handed_back = λ i. (again i, (back i).1); unchanged = put.unchanged })
     ]

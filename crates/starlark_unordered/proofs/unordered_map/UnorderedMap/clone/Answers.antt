@@ -1,6 +1,6 @@
 use Rattle.starlark_hash.proofs.Common.{arith, rules, common_steps}
 use Rattle.starlark_hash.specs.Clone.{IsLawfulClone}
-use Rattle.starlark_unordered.proofs.Agreeing.{found-cloned, pairs-cloned, keyed-cloned}
+use Rattle.starlark_unordered.proofs.LookupAgreement.{found-cloned, pairs-cloned, keyed-cloned}
 use Rattle.starlark_unordered.proofs.unordered_map.UnorderedMap.clone.Goals as goal
 use Rattle.std.proofs.lemmas.Map.Entries.{entries_from_clone}
 

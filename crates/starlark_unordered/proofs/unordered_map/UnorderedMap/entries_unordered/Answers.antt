@@ -1,6 +1,6 @@
 use Rattle.starlark_hash.proofs.Common.{arith, rules, common_steps, deref_pair}
 use Rattle.starlark_unordered.proofs.Keys.{distinct_pairs}
-use Rattle.starlark_unordered.proofs.Shows.{shows_in_order}
+use Rattle.starlark_unordered.proofs.IteratorRuns.{shows_in_order}
 use Rattle.starlark_unordered.proofs.unordered_map.UnorderedMap.entries_unordered.Goals as goal
 
 pub returns : goal.returns

@@ -1,7 +1,7 @@
 use Rattle.starlark_hash.proofs.Common.{Err, rules, arith, ◌≡◌, refl, None, update_all}
 use Rattle.starlark_unordered.specs.Lookup.{get}
 use Rattle.starlark_unordered.specs.Pairs.{pairs_of}
-use Rattle.starlark_unordered.proofs.Collected.{found-collected, most-collected, run_of}
+use Rattle.starlark_unordered.proofs.Collection.{found-collected, most-collected, run_of}
 use Rattle.starlark_unordered.proofs.unordered_map.UnorderedMap.from_iter.Goals as goal
 
 pub returns : goal.returns

@@ -2,7 +2,7 @@ use Rattle.starlark_hash.proofs.Common.{refl, arith, ap}
 use Rattle.std.proofs.iter.Next as it
 use Rattle.starlark_table.specs.Table.{table_len}
 use Rattle.starlark_table.proofs.TableLemmas.{grows-not, grows-on}
-use Rattle.starlark_unordered.proofs.Collected.{takes_more}
+use Rattle.starlark_unordered.proofs.Collection.{takes_more}
 use Rattle.starlark_unordered.proofs.unordered_map.UnorderedMap.insert_items.Goals as goal
 
 pub loop-pair-init : goal.loop-pair-init

@@ -1,5 +1,5 @@
 use Rattle.starlark_hash.proofs.Common.{rules, deref}
-use Rattle.starlark_unordered.proofs.Shows.{shows_in_order}
+use Rattle.starlark_unordered.proofs.IteratorRuns.{shows_in_order}
 use Rattle.starlark_unordered.proofs.unordered_map.UnorderedMap.keys_unordered.Goals as goal
 
 pub returns : goal.returns

@@ -1,7 +1,7 @@
 use Rattle.starlark_hash.proofs.Common.{rules, deref}
 use Rattle.starlark_unordered.specs.Pairs.{pairs_of}
 use Rattle.starlark_unordered.proofs.CallerLookup.{values-found}
-use Rattle.starlark_unordered.proofs.Shows.{shows_in_order}
+use Rattle.starlark_unordered.proofs.IteratorRuns.{shows_in_order}
 use Rattle.starlark_unordered.proofs.unordered_map.UnorderedMap.values_unordered.Goals as goal
 
 pub returns : goal.returns

@@ -1,5 +1,5 @@
 use Rattle.starlark_unordered.specs.Pairs.{pairs_of}
-use Rattle.starlark_unordered.proofs.Agreeing.{keys-cloned}
+use Rattle.starlark_unordered.proofs.LookupAgreement.{keys-cloned}
 use Rattle.starlark_unordered.proofs.unordered_set.UnorderedSet.clone.Goals as goal
 
 pub returns-clause-elements : goal.returns-clause-elements

@@ -1,6 +1,6 @@
 use Rattle.starlark_hash.proofs.Common.{◌≡◌, rules, of_calls, deref, IsPermutation-map, ranks_by, Bor, is_lt}
 use Rattle.std.proofs.lemmas.Fn.{answers_by}
-use Rattle.starlark_unordered.proofs.Shows.{drained_shown}
+use Rattle.starlark_unordered.proofs.IteratorRuns.{drained_shown}
 use Rattle.starlark_unordered.proofs.unordered_set.UnorderedSet.entries_sorted.Goals as goal
 
 pub returns : goal.returns

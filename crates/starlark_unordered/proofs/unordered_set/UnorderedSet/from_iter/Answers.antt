@@ -1,8 +1,8 @@
 use Rattle.starlark_hash.proofs.Common.{◌≡◌, refl, sym, subst, ◌∙◌, keys_of, is_member, is_some, is_some-update_all, ap, None}
 use Rattle.starlark_unordered.specs.Lookup.{contains}
 use Rattle.starlark_unordered.specs.Pairs.{pairs_of}
-use Rattle.starlark_unordered.proofs.Agreeing.{drains-beside}
-use Rattle.starlark_unordered.proofs.Collected.{found-collected, run_of}
+use Rattle.starlark_unordered.proofs.LookupAgreement.{drains-beside}
+use Rattle.starlark_unordered.proofs.Collection.{found-collected, run_of}
 use Rattle.starlark_unordered.proofs.unordered_set.UnorderedSet.from_iter.Goals as goal
 
 pub returns : goal.returns

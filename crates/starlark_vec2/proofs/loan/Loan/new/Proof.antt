@@ -1,11 +1,11 @@
--- `new` freezes the first parts of a column's pairs. The column stays open while it is lent to the call that shows its
--- items. Assumes `Logic`.
-use Rattle.starlark_columns.proofs.Walking.{ !, Array, Contract, Fml, GName, Lft, List, MutBor, MutSlice, RattleType, Room, SProp, Share, Struct, Val, [], a_type, addr, ages, agg, alloc_all, and_then, ap, await, block_ptr, bor_new_deep, by, calls_at, drop, emp, ensured, enter, ex_e, fact, fauth, feq_i, feq_l, fjoin, fjoin3, fld, flft, follows, follows_then, fpack, framed, free_all, from, fsep, fsplit, fsplit3, fst∗, ftrue, get, group, heard, hop, id⊢, inst_fn, items_of, join, keep, lands_as, lasts, later, layouts, leaves, length, look_at, look_in_at, makes_shadow, mem, move, mut_Tells, mut_vals, name_new, named, named_lft, no_more, nothing, only, open_ref, owned, owns, param, pass_all, pick, proved, pure_i, pure_l, qed, raw, refl, returns, rewrite, room, sem, sets, shape, snd∗, some, split, split3, stop, sub, subst, sym, tables, through, triple_of, types_at, uint_Makes, uint_Tells, uint_vals, use0, use1, use2, usize, vcons, vint, vnil, vptr, vstruct, w64, walk_of, whole, zero-add, zero-mul, ‵, ℕ, ◌$◌, ◌*◌, ◌+◌, ◌<◌, ◌^◌, ◌∙◌, ◌∵◌, ◌∷◌, ◌≡◌, ◌⊑◌, ◌⊛◌, tells, spent, drops, drops_go, heres_id, Arr, cells, coded_list, fobs, fbor, Body, takes_part, done}
-use Rattle.starlark_vec2.proofs.Words.{Row, with_cells, word, word_good, address_made, address_told, IsFront, with_items, column, Pair, KeptRun, with_seconds, lent_run}
+-- `new` lends the second parts of a column's pairs, whose first parts do not change. The borrow of the column stays
+-- open while it is lent to the call that shows its items. Assumes `Logic`.
+use Rattle.starlark_columns.proofs.LogicNames.{ !, Array, Contract, Fml, GName, Lft, List, MutBor, MutSlice, RattleType, Room, SProp, Share, Struct, Val, [], a_type, addr, ages, agg, alloc_all, and_then, ap, await, block_ptr, bor_new_deep, by, calls_at, drop, emp, ensured, enter, ex_e, fact, fauth, feq_i, feq_l, fjoin, fjoin3, fld, flft, follows, follows_then, fpack, framed, free_all, from, fsep, fsplit, fsplit3, fst∗, ftrue, get, group, heard, hop, id⊢, inst_fn, items_of, join, keep, lands_as, lasts, later, layouts, leaves, length, look_at, look_in_at, makes_shadow, mem, move, mut_Tells, mut_vals, name_new, named, named_lft, no_more, nothing, only, open_ref, owned, owns, param, pass_all, pick, proved, pure_i, pure_l, qed, raw, refl, returns, rewrite, room, sem, sets, shape, snd∗, some, split, split3, stop, sub, subst, sym, tables, through, triple_of, types_at, uint_Makes, uint_Tells, uint_vals, use0, use1, use2, usize, vcons, vint, vnil, vptr, vstruct, w64, walk_of, whole, zero-add, zero-mul, ‵, ℕ, ◌$◌, ◌*◌, ◌+◌, ◌<◌, ◌^◌, ◌∙◌, ◌∵◌, ◌∷◌, ◌≡◌, ◌⊑◌, ◌⊛◌, tells, spent, drops, drops_go, heres_id, Arr, cells, coded_list, fobs, fbor, Body, takes_part, done}
+use Rattle.starlark_vec2.proofs.ColumnNames.{Row, with_cells, word, word_good, address_made, address_told, IsFront, with_items, column, Pair, KeptRun, with_seconds, lent_run}
 use base.Share
 use Rattle.starlark_columns.specs.contracts.block.Address as address
 use Rattle.starlark_columns.specs.declared.block.Address.{Address}
-use Rattle.starlark_columns.proofs.NamedClose.{closes_named}
+use Rattle.starlark_columns.proofs.NamedLoan.{closes_named}
 use Rattle.starlark_vec2.proofs.FrozenPairs.{with_itself, length-with_seconds, kept_items}
 use Rattle.starlark_vec2.specs.contracts.loan as loan
 use Rattle.starlark_vec2.proofs.loan.run_mut.Met as run

@@ -1,7 +1,7 @@
--- `take_end` takes the pair at either end. Assumes `Logic`.
-use Rattle.starlark_columns.proofs.Walking.{ !, Bor, Fml, GName, Goes-dropped, Goes-ref, Incl-trans, Lft, Lfts, List, MutBor, MutRef, Ptr, RattleType, Room, SProp, Share, ShrRef, Stays, Tuple, Val, [], a_type, addr, after, agg, alloc_all, and_then, ap, arith, at_ret, await, bin, blocks, by, cell_at, closes, enter, env, exec, fact, feq_i, first, fjoin, fjoin3, fld, flft, free_all, fsep, fsplit, fsplit3, ftrue, full_share, get, heard, id⊢, in_a_block, inst_fn, is, join, keep, later, layouts, leaves, length, load, look_at, look_in, mem, move, mut_Tells, mut_vals, named, named_lft, never, no_more, of_opd, opens, owns, param, param_laws, pass_all, peeks, pick, plain, proved, pure_i, pure_l, qed, raw, refl, returns, rewrite, room, sets, sets_last, shows, size_word, some, split, split3, stay_dropped, stay_ref, stop, sub, subst, sym, tables, through, times_below, types_at, uint_Tells, uint_vals, uncapped, use2, usize, vcons, vint, vnil, vptr, vstruct, w64, walk_of, whole, yes, ‵, ℕ, ◌$◌, ◌*◌, ◌+◌, ◌<◌, ◌^◌, ◌∙◌, ◌∵◌, ◌∷◌, ◌≡◌, ◌⊑◌, ◌⊛◌, Item, tells, spent}
-use Rattle.starlark_vec2.proofs.Words.{Pair, frozen, IsEnd, TakesEnd}
-use Rattle.starlark_columns.proofs.EntryOut.{Out, pair_out, part, first_at, second_at, as_tuple}
+-- `take_end` takes the pair at either end of those that are left. Assumes `Logic`.
+use Rattle.starlark_columns.proofs.LogicNames.{ !, Bor, Fml, GName, Goes-dropped, Goes-ref, Incl-trans, Lft, Lfts, List, MutBor, MutRef, Ptr, RattleType, Room, SProp, Share, ShrRef, Stays, Tuple, Val, [], a_type, addr, after, agg, alloc_all, and_then, ap, arith, at_ret, await, bin, blocks, by, cell_at, closes, enter, env, exec, fact, feq_i, first, fjoin, fjoin3, fld, flft, free_all, fsep, fsplit, fsplit3, ftrue, full_share, get, heard, id⊢, in_a_block, inst_fn, is, join, keep, later, layouts, leaves, length, load, look_at, look_in, mem, move, mut_Tells, mut_vals, named, named_lft, never, no_more, of_opd, opens, owns, param, param_laws, pass_all, peeks, pick, plain, proved, pure_i, pure_l, qed, raw, refl, returns, rewrite, room, sets, sets_last, shows, size_word, some, split, split3, stay_dropped, stay_ref, stop, sub, subst, sym, tables, through, times_below, types_at, uint_Tells, uint_vals, uncapped, use2, usize, vcons, vint, vnil, vptr, vstruct, w64, walk_of, whole, yes, ‵, ℕ, ◌$◌, ◌*◌, ◌+◌, ◌<◌, ◌^◌, ◌∙◌, ◌∵◌, ◌∷◌, ◌≡◌, ◌⊑◌, ◌⊛◌, Item, tells, spent}
+use Rattle.starlark_vec2.proofs.ColumnNames.{Pair, frozen, IsEnd, TakesEnd}
+use Rattle.starlark_columns.proofs.EntryParts.{Out, pair_out, part, first_at, second_at, as_tuple}
 use Rattle.starlark_vec2.proofs.FrozenPairs.{Off, end_of, fewer_left, end_out}
 use Rattle.starlark_vec2.specs.contracts.loan.Loan as contract
 use Rattle.starlark_vec2.proofs.loan.Loan as routine

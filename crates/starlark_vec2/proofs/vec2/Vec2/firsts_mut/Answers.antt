@@ -1,5 +1,5 @@
 use Rattle.starlark_hash.proofs.Common.{refl}
-use Rattle.starlark_columns.proofs.Fronts.{written_cells}
+use Rattle.starlark_columns.proofs.ItemsAtFront.{written_cells}
 use Rattle.starlark_vec2.proofs.TwoColumns.{relaid, firsts_written}
 use Rattle.starlark_vec2.proofs.vec2.Vec2.firsts_mut.Goals as goal
 

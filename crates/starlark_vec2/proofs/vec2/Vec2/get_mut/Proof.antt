@@ -1,14 +1,14 @@
--- `get_mut` meets its contract: the struct stays open while its columns are lent, each to a call, and what they follow closes
--- it; where the first has no item, both are given up and it closes unchanged. Assumes `Logic`.
-use Rattle.starlark_columns.proofs.Walking.{ !, follows_by, both_if_by, Contract, Lft, List, MutBor, MutRef, RattleType, SProp, Share, Some-of, Val, [], a_type, addr, after, ages, agg, alloc_all, and_then, ap, arith, at_ret, await, bor_new_deep, both_by, by, by_variants, calls_at, drop, ensured, enter, env, ex_e, exec, fact, fauth, feq_i, feq_l, first, fjoin, fjoin3, fld, flft, follows, follows_both, follows_if, fpack, framed, free_all, fres, fsep, fsplit3, ftrue, get, get_in, get_or, get_tag, ghost_name_of, group, heard, id⊢, in_variant, inl, inr, inst_fn, items_of, join, keep, lands_as, lasts, later, layouts, leaves, length, lit, lit<, live, load, look_at, mem, move, mut_Tells, mut_vals, name_new, named, no_more, none_of, nothing, of_list, of_opd, only, open_ref, option_copied_mut, owned, owns, param, param_laws, pass_all, pick, proved, qed, raw, refl, returns, rewrite, sem, sets, sets_last, slice_get, slice_get_within, slice_set, snd∗, some, split, split3, stop, subst, suc-ne-zero, sym, tables, through, triple_of, types_at, uint_Makes, uint_Tells, uint_vals, use0, use1, use2, usize, vcons, vint, vnil, vptr, vrt, w64, walk_of, whole, ‵, ℕ, ◌$◌, ◌+◌, ◌<◌, ◌^◌, ◌∙◌, ◌∵◌, ◌∷◌, ◌≡◌, ◌⊑◌, ◌⊛◌, tells, spent, drops, drops_go, look_in, sub, follows_said, after₂, name_done, followed₂, mean, ◌++◌, fpick, peeks, shows, fsplit}
-use Rattle.starlark_vec2.proofs.Words.{At, Option, Some, None, with_cells, words, words_good, spot_made, front_filled, front_taken, column, with_pair, lends_both_if, PairList}
+-- `get_mut` meets its contract. The borrow of the struct stays open while each column is lent to a call, and is closed
+-- by what both end as. If the first column has no item, both are given up, and it is closed unchanged. Assumes `Logic`.
+use Rattle.starlark_columns.proofs.LogicNames.{ !, follows_by, both_if_by, Contract, Lft, List, MutBor, MutRef, RattleType, SProp, Share, Some-of, Val, [], a_type, addr, after, ages, agg, alloc_all, and_then, ap, arith, at_ret, await, bor_new_deep, both_by, by, by_variants, calls_at, drop, ensured, enter, env, ex_e, exec, fact, fauth, feq_i, feq_l, first, fjoin, fjoin3, fld, flft, follows, follows_both, follows_if, fpack, framed, free_all, fres, fsep, fsplit3, ftrue, get, get_in, get_or, get_tag, ghost_name_of, group, heard, id⊢, in_variant, inl, inr, inst_fn, items_of, join, keep, lands_as, lasts, later, layouts, leaves, length, lit, lit<, live, load, look_at, mem, move, mut_Tells, mut_vals, name_new, named, no_more, none_of, nothing, of_list, of_opd, only, open_ref, option_copied_mut, owned, owns, param, param_laws, pass_all, pick, proved, qed, raw, refl, returns, rewrite, sem, sets, sets_last, slice_get, slice_get_within, slice_set, snd∗, some, split, split3, stop, subst, suc-ne-zero, sym, tables, through, triple_of, types_at, uint_Makes, uint_Tells, uint_vals, use0, use1, use2, usize, vcons, vint, vnil, vptr, vrt, w64, walk_of, whole, ‵, ℕ, ◌$◌, ◌+◌, ◌<◌, ◌^◌, ◌∙◌, ◌∵◌, ◌∷◌, ◌≡◌, ◌⊑◌, ◌⊛◌, tells, spent, drops, drops_go, look_in, sub, follows_said, after₂, name_done, followed₂, mean, ◌++◌, fpick, peeks, shows, fsplit}
+use Rattle.starlark_vec2.proofs.ColumnNames.{At, Option, Some, None, with_cells, words, words_good, spot_made, front_filled, front_taken, column, with_pair, lends_both_if, PairList}
 use base.Share
 use Rattle.core.specs.contracts.option.Option as OP
-use Rattle.starlark_vec2.proofs.BothClose.{closes_both}
+use Rattle.starlark_vec2.proofs.TwoLoans.{closes_both}
 use Rattle.std.specs.Option.{option_zip}
 use Rattle.starlark_vec2.proofs.Pairs.{slice_get-zip}
 use Rattle.starlark_vec2.proofs.TwoColumns.{len_is, pair_is}
-use Rattle.starlark_vec2.proofs.Vec2Open.{V, Held, held, inside, Rest, Cuts, eA, eB, cut, shut, at_behind, at_front, written, written_known}
+use Rattle.starlark_vec2.proofs.Vec2Open.{V, Held, held, fields_value, Rest, Cuts, firsts_offset, seconds_offset, cut, shut, at_behind, at_front, written, written_known}
 use Rattle.starlark_vec2.proofs.LentInOption.{either, in_none, given_up, as_tuple, PairOf, pair_val}
 use Rattle.starlark_vec2.specs.contracts.vec2.get_mut.lend_front as g
 use Rattle.starlark_vec2.specs.contracts.vec2.get_mut.lend_behind_if as h
@@ -36,12 +36,12 @@ get_mut_spec 𝓤 𝓛 𝓜 𝓡 wired X Y LX LY =
     -- half of κ's token opens the struct, and half goes into the calls
     use1 𝓛 (‵ (flft κ (Share.left q)) ⊛ ‵ (flft κ (Share.right q))) (𝓛.lfts.lft_split κ q) $ split ! $ move ! (4 ∷ []) $ fsplit3 ! $ drop ! $ open_ref ! tt (mem W) {b = b} {o = o} $
     use1 𝓛 (some (Held A B LA LB 𝓛 b o v)) (held A B LA LB 𝓛 b o v) $ pick ! (λ f. split ! $
-    let d = f.0 in let known = f.2 in let told = f.3 in let rx = d.firsts in let ry = d.seconds in let xs = rx.cells in let ys = ry.cells in let oA = o + eA A B in let oB = o + eB A B in
+    let d = f.0 in let known = f.2 in let told = f.3 in let rx = d.firsts in let ry = d.seconds in let xs = rx.cells in let ys = ry.cells in let oA = o + firsts_offset A B in let oB = o + seconds_offset A B in
     let at = d.spot in let index : Val = words at.address.at at.count in
-    -- the spot and the length are read where they lie
+    -- the spot and the length are read from memory
     sets ! (of_opd ! (load ! (through ! refl (fld ! refl (stop !))) (look_in ! 0 (sub ! 3 refl (whole !))))) refl (words_good at.address.at at.count told.1) $
     sets ! (of_opd ! (load ! (through ! refl (fld ! refl (stop !))) (look_in ! 0 (sub ! 2 refl (whole !))))) refl (tt, record { fits = told.0 }) $ sets ! (addr ! (through ! refl (fld ! refl (stop !)))) refl (tt, tt) $
-    use2 𝓛 (Cuts A B LA LB 𝓛 b o d) (cut A B LA LB 𝓛 b o d (inside A B d f.1)) $ split3 ! $
+    use2 𝓛 (Cuts A B LA LB 𝓛 b o d) (cut A B LA LB 𝓛 b o d (fields_value A B d f.1)) $ split3 ! $
     -- [the columns; the rest; the open borrow; obs; auth; half of κ's token; those of κA, κB]
     name_new ! tt (CA.coded.code rx) (λ δ. move ! (2 ∷ 1 ∷ []) $ fjoin ! $ fpack ! CA.Denot (λ z. fsep ((mem CA).own_at z b oA) (fauth δ (CA.coded.code z))) rx $
     name_new ! tt (CB.coded.code ry) (λ δ'. move ! (4 ∷ 1 ∷ []) $ fjoin ! $ fpack ! CB.Denot (λ z. fsep ((mem CB).own_at z b oB) (fauth δ' (CB.coded.code z))) ry $

@@ -1,12 +1,12 @@
--- `get_unchecked_mut` meets its contract: the struct stays open while its columns are lent to one call, and what they follow
--- closes it. Assumes `Logic`.
-use Rattle.starlark_columns.proofs.Walking.{slice_get, !, Contract, Fml, Lft, List, MutBor, None, RattleType, SProp, Share, Val, [], a_type, addr, ages, alloc_all, and_then, ap, await, bor_new_deep, both_by, by, calls_at, drop, ensured, enter, ex_e, fact, fauth, feq_i, fjoin, fjoin3, fld, flft, follows, follows_both, fpack, framed, free_all, fsep, fsplit, fsplit3, ftrue, get, get_or, group, heard, id⊢, inst_fn, join, keep, lands_as, lasts, later, layouts, leaves, length, load, look_at, mem, move, mut_Tells, mut_vals, name_new, named, no_more, nothing, of_list, of_opd, only, open_ref, owned, owns, param, param_laws, pass_all, pick, proved, qed, raw, refl, returns, sem, sets, slice_set, snd∗, some, split, split3, stop, tables, through, triple_of, types_at, uint_Makes, uint_Tells, uint_vals, use0, use1, use2, usize, vint, vptr, vstruct, w64, walk_of, ‵, ℕ, ◌$◌, ◌++◌, ◌+◌, ◌<◌, ◌∙◌, ◌∵◌, ◌∷◌, ◌≡◌, ◌⊑◌, ◌⊛◌, tells, spent, drops, drops_go, look_in, sub, whole, mean, peeks, shows, rewrite}
-use Rattle.starlark_vec2.proofs.Words.{At, Some, with_cells, words, words_good, spot_made, front_filled, front_taken, column, with_pair, PairList}
+-- `get_unchecked_mut` meets its contract. The borrow of the struct stays open while both columns are lent to one call,
+-- and is closed by what they end as. Assumes `Logic`.
+use Rattle.starlark_columns.proofs.LogicNames.{slice_get, !, Contract, Fml, Lft, List, MutBor, None, RattleType, SProp, Share, Val, [], a_type, addr, ages, alloc_all, and_then, ap, await, bor_new_deep, both_by, by, calls_at, drop, ensured, enter, ex_e, fact, fauth, feq_i, fjoin, fjoin3, fld, flft, follows, follows_both, fpack, framed, free_all, fsep, fsplit, fsplit3, ftrue, get, get_or, group, heard, id⊢, inst_fn, join, keep, lands_as, lasts, later, layouts, leaves, length, load, look_at, mem, move, mut_Tells, mut_vals, name_new, named, no_more, nothing, of_list, of_opd, only, open_ref, owned, owns, param, param_laws, pass_all, pick, proved, qed, raw, refl, returns, sem, sets, slice_set, snd∗, some, split, split3, stop, tables, through, triple_of, types_at, uint_Makes, uint_Tells, uint_vals, use0, use1, use2, usize, vint, vptr, vstruct, w64, walk_of, ‵, ℕ, ◌$◌, ◌++◌, ◌+◌, ◌<◌, ◌∙◌, ◌∵◌, ◌∷◌, ◌≡◌, ◌⊑◌, ◌⊛◌, tells, spent, drops, drops_go, look_in, sub, whole, mean, peeks, shows, rewrite}
+use Rattle.starlark_vec2.proofs.ColumnNames.{At, Some, with_cells, words, words_good, spot_made, front_filled, front_taken, column, with_pair, PairList}
 use base.Share
-use Rattle.starlark_vec2.proofs.BothClose.{closes_both}
+use Rattle.starlark_vec2.proofs.TwoLoans.{closes_both}
 use Rattle.starlark_vec2.proofs.LentInOption.{PairOf, pair_val}
 use Rattle.starlark_vec2.proofs.TwoColumns.{in_columns, pair_is}
-use Rattle.starlark_vec2.proofs.Vec2Open.{V, Held, held, inside, Rest, Cuts, eA, eB, cut, shut, at_behind, at_front, written, written_known}
+use Rattle.starlark_vec2.proofs.Vec2Open.{V, Held, held, fields_value, Rest, Cuts, firsts_offset, seconds_offset, cut, shut, at_behind, at_front, written, written_known}
 use Rattle.starlark_vec2.specs.contracts.vec2.get_mut.lend_columns as g
 use Rattle.starlark_vec2.proofs.vec2.get_mut.lend_columns.Met as lend
 use Rattle.starlark_vec2.specs.contracts.vec2.Vec2.get_unchecked_mut as contract
@@ -30,12 +30,12 @@ get_unchecked_mut_spec 𝓤 𝓛 𝓜 𝓡 wired X Y LX LY =
     -- half of κ's token opens the struct, and half goes into the call
     use1 𝓛 (‵ (flft κ (Share.left q)) ⊛ ‵ (flft κ (Share.right q))) (𝓛.lfts.lft_split κ q) $ split ! $ move ! (3 ∷ []) $ fsplit3 ! $ drop ! $ open_ref ! tt (mem W) {b = b} {o = o} $
     use1 𝓛 (some (Held A B LA LB 𝓛 b o v)) (held A B LA LB 𝓛 b o v) $ pick ! (λ f. split ! $
-    let d = f.0 in let known = f.2 in let told = f.3 in let rx = d.firsts in let ry = d.seconds in let xs = rx.cells in let ys = ry.cells in let oA = o + eA A B in let oB = o + eB A B in
+    let d = f.0 in let known = f.2 in let told = f.3 in let rx = d.firsts in let ry = d.seconds in let xs = rx.cells in let ys = ry.cells in let oA = o + firsts_offset A B in let oB = o + seconds_offset A B in
     let at = d.spot in let index : Val = words at.address.at at.count in
-    -- the spot is read where it lies
+    -- the spot is read from memory
     sets ! (of_opd ! (load ! (through ! refl (fld ! refl (stop !))) (look_in ! 0 (sub ! 3 refl (whole !))))) refl (words_good at.address.at at.count told.1) $
     sets ! (addr ! (through ! refl (fld ! refl (stop !)))) refl (tt, tt) $ sets ! (addr ! (through ! refl (fld ! refl (stop !)))) refl (tt, tt) $
-    use2 𝓛 (Cuts A B LA LB 𝓛 b o d) (cut A B LA LB 𝓛 b o d (inside A B d f.1)) $ split3 ! $
+    use2 𝓛 (Cuts A B LA LB 𝓛 b o d) (cut A B LA LB 𝓛 b o d (fields_value A B d f.1)) $ split3 ! $
     -- [the columns; the rest; the open borrow; obs; auth; half of κ's token; the others]
     name_new ! tt (CA.coded.code rx) (λ δ. move ! (2 ∷ 1 ∷ []) $ fjoin ! $ fpack ! CA.Denot (λ z. fsep ((mem CA).own_at z b oA) (fauth δ (CA.coded.code z))) rx $
     name_new ! tt (CB.coded.code ry) (λ δ'. move ! (4 ∷ 1 ∷ []) $ fjoin ! $ fpack ! CB.Denot (λ z. fsep ((mem CB).own_at z b oB) (fauth δ' (CB.coded.code z))) ry $

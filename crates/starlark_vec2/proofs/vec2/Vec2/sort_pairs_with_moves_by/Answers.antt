@@ -1,7 +1,7 @@
 use Rattle.starlark_hash.proofs.Common.{◌≡◌, length, map, take, drop, ◌++◌, sym, ap, subst, ◌∙◌, append-nil, arith, enumerate_from, range_with_len, IsStableBy, take_all, drop_all, common_steps, length-enumerate_from}
 use Rattle.std.specs.List.Sorted.{IsPermutation}
 use Rattle.starlark_vec2.specs.Sort.{PutsInOrder}
-use Rattle.starlark_vec2.proofs.Moving.{numbered_lt, numbered_lt-weak, sorted_by-numbered, items-numbered, cells-rearranged, Moves-noted}
+use Rattle.starlark_vec2.proofs.NumberedItems.{numbered_lt, numbered_lt-weak, sorted_by-numbered, items-numbered, cells-rearranged, Moves-noted}
 use Rattle.starlark_vec2.proofs.vec2.Vec2.sort_pairs_with_moves_by.Goals as goal
 
 pub note_moves-requires-clause-indices : goal.note_moves-requires-clause-indices

@@ -1,5 +1,5 @@
 use Rattle.starlark_hash.proofs.Common.{◌++◌, ap, ◌∙◌, reverse, rules, arith, common_steps, enumerate_from}
-use Rattle.starlark_vec2.proofs.Moving.{numbered-taken}
+use Rattle.starlark_vec2.proofs.NumberedItems.{numbered-taken}
 use Rattle.starlark_vec2.proofs.vec2.Vec2.take_numbered.Goals as goal
 
 pub loop-pair-preserved : goal.loop-pair-preserved

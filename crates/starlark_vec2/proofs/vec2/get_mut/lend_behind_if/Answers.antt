@@ -1,5 +1,5 @@
 use Rattle.starlark_hash.proofs.Common.{refl}
-use Rattle.starlark_columns.proofs.Fronts.{front_filled, front_taken}
+use Rattle.starlark_columns.proofs.ItemsAtFront.{front_filled, front_taken}
 use Rattle.starlark_vec2.proofs.vec2.get_mut.lend_behind_if.Goals as goal
 
 pub get_mut-requires-clause-filled : goal.get_mut-requires-clause-filled

@@ -1,6 +1,6 @@
--- `lend_columns` meets its contract: two calls, each of which says what its column follows. Assumes `Logic`.
-use Rattle.starlark_columns.proofs.Walking.{ !, Contract, IsFilled, Lft, List, MutBor, MutRef, None, RattleType, SProp, Share, Some, Val, [], a_type, addr, agg, alloc_all, and_then, ap, await, by, calls_at, ensured, enter, ex_e, fact, feq_i, feq_l, fjoin, fjoin3, flft, follows, framed, free_all, fsplit3, ftrue, get, get_or, group, heard, id⊢, inst_fn, join, keep, lands_as, lasts, later, layouts, leaves, look_at, move, mut_Tells, mut_vals, named, no_more, nothing, only, owned, owns, param, pass_all, pick, proved, qed, raw, refl, returns, sem, sets, slice_set, snd∗, some, split, split3, stop, tables, through, triple_of, types_at, uint_Makes, uint_Tells, uint_vals, use0, use1, use2, usize, vint, vptr, w64, walk_of, ‵, ℕ, ◌$◌, ◌<◌, ◌^◌, ◌∵◌, ◌∷◌, ◌≡◌, ◌⊑◌, ◌⊛◌, tells, spent, drops, drops_go}
-use Rattle.starlark_vec2.proofs.Words.{At, IsBehind, Row, with_cells, words, words_good, spot_made, spot_told, column}
+-- `lend_columns` meets its contract by two calls, each of which says what its column ends as. Assumes `Logic`.
+use Rattle.starlark_columns.proofs.LogicNames.{ !, Contract, IsFilled, Lft, List, MutBor, MutRef, None, RattleType, SProp, Share, Some, Val, [], a_type, addr, agg, alloc_all, and_then, ap, await, by, calls_at, ensured, enter, ex_e, fact, feq_i, feq_l, fjoin, fjoin3, flft, follows, framed, free_all, fsplit3, ftrue, get, get_or, group, heard, id⊢, inst_fn, join, keep, lands_as, lasts, later, layouts, leaves, look_at, move, mut_Tells, mut_vals, named, no_more, nothing, only, owned, owns, param, pass_all, pick, proved, qed, raw, refl, returns, sem, sets, slice_set, snd∗, some, split, split3, stop, tables, through, triple_of, types_at, uint_Makes, uint_Tells, uint_vals, use0, use1, use2, usize, vint, vptr, w64, walk_of, ‵, ℕ, ◌$◌, ◌<◌, ◌^◌, ◌∵◌, ◌∷◌, ◌≡◌, ◌⊑◌, ◌⊛◌, tells, spent, drops, drops_go}
+use Rattle.starlark_vec2.proofs.ColumnNames.{At, IsBehind, Row, with_cells, words, words_good, spot_made, spot_told, column}
 use Rattle.starlark_vec2.proofs.LentInOption.{as_tuple, PairOf, pair_val}
 use Rattle.starlark_vec2.specs.contracts.vec2.get_mut.lend_behind as g
 use Rattle.starlark_vec2.specs.contracts.vec2.get_mut.lend_front as h
@@ -39,7 +39,7 @@ lend_columns_spec 𝓤 𝓛 𝓜 𝓡 wired X Y LX LY =
     use1 𝓛 (‵ (follows CA A r.ghost_name x.ghost_name put_x) ⊛ raw (fact 𝓤 Value)) (ex_e 𝓤 _ (λ ws. snd∗ 𝓤 (sem 𝓛 (lasts (g.ended X Y) za.0.0 za.0.3 ws)) _)) $ split ! $
     move ! (1 ∷ []) $ heard ! _ (λ ea. move ! (1 ∷ []) $ split ! $ move ! (1 ∷ []) $ fsplit3 ! $ feq_l ! (λ at_x. lands_as ! (ap only at_x) refl (tt, tt) $
     feq_i ! (List Val) (mut_vals x) (mut_vals x) refl $ fjoin3 ! $ move ! (1 ∷ []) $ split3 ! $ move ! (2 ∷ []) $ split ! $ move ! (2 ∷ 3 ∷ 1 ∷ 4 ∷ 5 ∷ 0 ∷ []) $
-    -- the second, the same: [the tokens of κ, κA; nothing; x; what firsts follows; the token of κB; seconds]
+    -- the second call: [the tokens of κ, κA; nothing; x; what firsts follows; the token of κB; seconds]
     sets ! (addr ! (through ! refl (stop !))) refl (tt, tt) $ nothing ! $ owned ! usize _ (uint_Makes 𝓛 w64) i _ (refl, fi) $ fjoin ! $ use0 𝓛 (‵ ((At B).own_val t (index ∷ []))) (spot_made B 𝓛 t ft) $ fjoin ! $ move ! (7 ∷ 0 ∷ []) $ fjoin ! $
     nothing ! $ move ! (7 ∷ 0 ∷ []) $ join ! $ move ! (2 ∷ 0 ∷ []) $ join ! $ join ! $
     tells ! _ is $ tells ! _ lies' $ tells ! _ lb $ group ! 3 $ move ! (1 ∷ 0 ∷ []) $ join ! $

@@ -1,5 +1,5 @@
 use Rattle.starlark_hash.proofs.Common.{◌≡◌, ◌<◌, length, refl, get_or, ap, ◌∙◌, arith}
-use Rattle.starlark_vec2.proofs.Sieving.{sifting_asks, sifting_keeps, sifting_drops, sifting_ends}
+use Rattle.starlark_vec2.proofs.Retention.{sifting_asks, sifting_keeps, sifting_drops, sifting_ends}
 use Rattle.starlark_vec2.proofs.vec2.retain.sieve.Goals as goal
 
 pub ask-requires : goal.ask-requires

@@ -1,6 +1,6 @@
 use Rattle.starlark_hash.proofs.Common.{◌≤◌, ◌-◌, zip}
 use Rattle.starlark_vec2.specs.Retain.{TakesBoth, CalledAtBoth}
-use Rattle.starlark_vec2.proofs.Sieving.{Sifting}
+use Rattle.starlark_vec2.proofs.Retention.{Sifting}
 use Rattle.starlark_vec2.proofs.vec2.retain.sieve.Given as goal
 
 abbrev pub invariant-loop-i : goal.invariant-loop-i

@@ -1,6 +1,6 @@
 use Rattle.starlark_hash.proofs.Common.{◌≡◌, ◌<◌, length, zip, refl, sym, ◌∙◌, arith, length-range_with_len, length_permutation}
 use Rattle.std.proofs.lemmas.Slice.Zip.{length-zip}
-use Rattle.starlark_vec2.proofs.Placing.{Spread_stays, Spread-from_permutation, fewer_misplaced, placed_stay, placing_step, zip-swap, PutsInOrder-from_placed}
+use Rattle.starlark_vec2.proofs.InPlacePermutation.{Spread_stays, Spread-from_permutation, fewer_misplaced, placed_stay, placing_step, zip-swap, PutsInOrder-from_placed}
 use Rattle.starlark_vec2.proofs.vec2.sort.put_in_order.Goals as goal
 
 pub loop-index-init : goal.loop-index-init

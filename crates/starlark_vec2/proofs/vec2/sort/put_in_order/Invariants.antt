@@ -1,5 +1,5 @@
 use Rattle.starlark_hash.proofs.Common.{◌≡◌, ℕ, ◌+◌, ◌-◌, ◌<◌, length, get_or, zip}
-use Rattle.starlark_vec2.proofs.Placing.{Spread, misplaced}
+use Rattle.starlark_vec2.proofs.InPlacePermutation.{Spread, misplaced}
 use Rattle.starlark_vec2.proofs.vec2.sort.put_in_order.Given as goal
 
 abbrev pub invariant-loop-index : goal.invariant-loop-index

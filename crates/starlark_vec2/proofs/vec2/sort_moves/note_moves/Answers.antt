@@ -1,6 +1,6 @@
 use Rattle.starlark_hash.proofs.Common.{◌≡◌, length, sym, ◌∙◌, refl, arith, length-map, get_or-map, length-range_with_len, length_permutation}
-use Rattle.starlark_vec2.proofs.Moving.{noted-more, noted-all}
-use Rattle.starlark_vec2.proofs.Placing.{Spread-from_permutation}
+use Rattle.starlark_vec2.proofs.NumberedItems.{noted-more, noted-all}
+use Rattle.starlark_vec2.proofs.InPlacePermutation.{Spread-from_permutation}
 use Rattle.starlark_vec2.proofs.vec2.sort_moves.note_moves.Goals as goal
 
 pub loop-j-init : goal.loop-j-init

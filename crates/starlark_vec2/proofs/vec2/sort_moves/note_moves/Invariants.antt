@@ -1,5 +1,5 @@
 use Rattle.starlark_hash.proofs.Common.{◌≡◌, ℕ, ◌<◌, ◌≤◌, ◌^◌, length, get_or, map}
-use Rattle.starlark_vec2.proofs.Placing.{Spread}
+use Rattle.starlark_vec2.proofs.InPlacePermutation.{Spread}
 use Rattle.starlark_vec2.proofs.vec2.sort_moves.note_moves.Given as goal
 
 abbrev pub invariant-loop-j : goal.invariant-loop-j

@@ -1,6 +1,6 @@
 use Rattle.starlark_hash.proofs.Common.{arith, length-map}
 use Rattle.starlark_vecmap.specs.EntryList.{entry_of}
-use Rattle.starlark_vecmap.proofs.Ordering.{clones-columns}
+use Rattle.starlark_vecmap.proofs.ColumnComparison.{clones-columns}
 use Rattle.starlark_vecmap.proofs.vec_map.VecMap.clone.Goals as goal
 
 pub returns-clause-entries : goal.returns-clause-entries

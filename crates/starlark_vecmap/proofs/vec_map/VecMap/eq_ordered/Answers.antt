@@ -1,4 +1,4 @@
-use Rattle.starlark_vecmap.proofs.Ordering.{same_ordered-columns}
+use Rattle.starlark_vecmap.proofs.ColumnComparison.{same_ordered-columns}
 use Rattle.starlark_vecmap.proofs.vec_map.VecMap.eq_ordered.Goals as goal
 
 pub returns-then-eq : goal.returns-then-eq

@@ -2,7 +2,7 @@ use Rattle.starlark_hash.proofs.Common.{◌<◌, length, get_or, Some, sym, ap, 
 use Rattle.starlark_hash.specs.Entries.{set_value_at}
 use Rattle.starlark_vec2.specs.PairList.{seconds_of}
 use Rattle.starlark_vecmap.specs.EntryList.{entry_list, entry_of}
-use Rattle.starlark_vecmap.proofs.OneValueWritten.{value_written, entry_read}
+use Rattle.starlark_vecmap.proofs.WrittenValue.{value_written, entry_read}
 use Rattle.starlark_vecmap.proofs.vec_map.VecMap.get_unchecked_mut.Goals as goal
 
 pub returns : goal.returns

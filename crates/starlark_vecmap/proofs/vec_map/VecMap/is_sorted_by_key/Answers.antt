@@ -1,4 +1,4 @@
-use Rattle.starlark_vecmap.proofs.Ordering.{ascends-columns}
+use Rattle.starlark_vecmap.proofs.ColumnComparison.{ascends-columns}
 use Rattle.starlark_vecmap.proofs.vec_map.VecMap.is_sorted_by_key.Goals as goal
 
 pub returns : goal.returns

@@ -2,7 +2,7 @@ use Rattle.starlark_hash.proofs.Common.{◌≡◌, ℕ, map, sym, ap, ◌∙◌,
 use Rattle.std.proofs.lemmas.List.Sorted.{answers_always}
 use Rattle.starlark_hash.specs.Sort.{key_lt, sorted_by_key}
 use Rattle.starlark_vecmap.specs.EntryList.{entry_list, entry_of}
-use Rattle.starlark_vec2.proofs.OneSortedList.{sorted_by-map}
+use Rattle.starlark_vec2.proofs.MappedSort.{sorted_by-map}
 use Rattle.starlark_vecmap.proofs.vec_map.VecMap.sort_columns.Goals as goal
 
 pub returns-clause-sorted : goal.returns-clause-sorted

@@ -1,4 +1,4 @@
-use Rattle.starlark_map.proofs.Ascending.{Ascends-strictly}
+use Rattle.starlark_map.proofs.AscendingLists.{Ascends-strictly}
 use Rattle.starlark_map.proofs.sorted_set.iter.SortedSetIntoIterator.into_iter.Goals as goal
 
 pub returns-clause-strictly : goal.returns-clause-strictly

@@ -1,5 +1,5 @@
 use Rattle.starlark_hash.proofs.Common.{arith, common_steps}
-use Rattle.starlark_unordered.proofs.Agreeing.{found-equal}
+use Rattle.starlark_unordered.proofs.LookupAgreement.{found-equal}
 use Rattle.starlark_unordered.proofs.unordered_set.compare.UnorderedSetPartialEq.eq.Goals as goal
 
 pub returns-clause-agrees : goal.returns-clause-agrees

@@ -1,5 +1,5 @@
 use Rattle.starlark_hash.proofs.Common.{ap, refl}
-use Rattle.starlark_unordered.proofs.RawWritten.{key_shown, raw_element_put, element_in_place}
+use Rattle.starlark_unordered.proofs.RawEntryWrites.{key_shown, raw_element_put, element_in_place}
 use Rattle.starlark_unordered.proofs.unordered_set.raw_entry.RawOccupiedEntryMut.insert.Goals as goal
 
 pub returns : goal.returns

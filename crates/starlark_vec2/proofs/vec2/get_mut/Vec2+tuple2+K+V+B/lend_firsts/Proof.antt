@@ -1,9 +1,9 @@
--- `lend_firsts` lends the first column, and the whole list, open over the call, is closed by what that follows. Assumes
--- `Logic`.
-use Rattle.starlark_columns.proofs.Walking.{ !, Contract, Fml, GName, Lft, List, MutBor, Ptr, RattleType, SProp, Share, Val, [], a_type, addr, ages, alloc_all, and_then, ap, await, bor_new_deep, by, calls_at, drop, ensured, enter, ex_e, fact, fauth, feq_i, fjoin, fjoin3, fld, flft, follows, fpack, framed, free_all, fsep, fsplit, fsplit3, ftrue, full_share, get, group, heard, id⊢, in_a_block, inst_fn, items_of, join, keep, lands_as, lasts, later, layouts, leaves, length, load, look_at, mem, move, mut_Tells, mut_vals, name_new, named, named_lft, no_more, nothing, of_opd, only, open_ref, owned, owns, param, param_laws, part_at, pass_all, peeks, pick, proved, qed, raw, refl, returns, rewrite, sem, sets, shows, snd∗, some, split, stop, sym, tables, through, triple_of, tuple_laws, types_at, uint_Makes, use0, use1, use2, usize, vcons, vint, vnil, vptr, vstruct, w64, walk_of, zip, ‵, ℕ, ◌$◌, ◌+◌, ◌∙◌, ◌∵◌, ◌∷◌, ◌≡◌, ◌⊑◌, ◌⊛◌, tells, spent, drops, drops_go, look_in, sub, whole, mean}
-use Rattle.starlark_vec2.proofs.Words.{At, Row, with_cells, words, words_good, spot_made, with_items, all_written, written_cells, column, Pair, with_seconds, frozen, with_values, pair_list, with_pairs, firsts_of}
+-- `lend_firsts` lends the first column. The borrow of the list stays open over the call, and is closed by what the
+-- column ends as. Assumes `Logic`.
+use Rattle.starlark_columns.proofs.LogicNames.{ !, Contract, Fml, GName, Lft, List, MutBor, Ptr, RattleType, SProp, Share, Val, [], a_type, addr, ages, alloc_all, and_then, ap, await, bor_new_deep, by, calls_at, drop, ensured, enter, ex_e, fact, fauth, feq_i, fjoin, fjoin3, fld, flft, follows, fpack, framed, free_all, fsep, fsplit, fsplit3, ftrue, full_share, get, group, heard, id⊢, in_a_block, inst_fn, items_of, join, keep, lands_as, lasts, later, layouts, leaves, length, load, look_at, mem, move, mut_Tells, mut_vals, name_new, named, named_lft, no_more, nothing, of_opd, only, open_ref, owned, owns, param, param_laws, part_at, pass_all, peeks, pick, proved, qed, raw, refl, returns, rewrite, sem, sets, shows, snd∗, some, split, stop, sym, tables, through, triple_of, tuple_laws, types_at, uint_Makes, use0, use1, use2, usize, vcons, vint, vnil, vptr, vstruct, w64, walk_of, zip, ‵, ℕ, ◌$◌, ◌+◌, ◌∙◌, ◌∵◌, ◌∷◌, ◌≡◌, ◌⊑◌, ◌⊛◌, tells, spent, drops, drops_go, look_in, sub, whole, mean}
+use Rattle.starlark_vec2.proofs.ColumnNames.{At, Row, with_cells, words, words_good, spot_made, with_items, all_written, written_cells, column, Pair, with_seconds, frozen, with_values, pair_list, with_pairs, firsts_of}
 use base.Share
-use Rattle.starlark_columns.proofs.NamedClose.{closes_named}
+use Rattle.starlark_columns.proofs.NamedLoan.{closes_named}
 use Rattle.starlark_vec2.specs.contracts.loan.Loan as loan
 use Rattle.starlark_vec2.proofs.loan.Loan as its
 use Rattle.starlark_vec2.proofs.TwoColumns.{relaid, firsts_written, firsts_are}
@@ -31,12 +31,12 @@ lend_firsts_spec 𝓤 𝓛 𝓜 𝓡 wired X Y Z LX LY LZ =
     enter ! 𝓣.C 𝓣.Λ fn (vptr b o ∷ []) Post $ alloc_all ! (λ l. pass_all ! refl ((tt, tt), tt) $
     use1 𝓛 (‵ (flft κ (Share.left q)) ⊛ ‵ (flft κ (Share.right q))) (𝓛.lfts.lft_split κ q) $ split ! $ move ! (3 ∷ []) $ fsplit3 ! $ drop ! $ open_ref ! tt (mem W) {b = b} {o = o} $
     use1 𝓛 (some (O.Held P S LP LS 𝓛 b o v)) (O.held P S LP LS 𝓛 b o v) $ pick ! (λ f. split ! $
-    let d = f.0 in let known = f.2 in let told = f.3 in let xs = d.firsts in let oA = o + O.eA P S in let at = d.spot in let index : Val = words at.address.at at.count in
-    -- the spot and the length are read where they lie
+    let d = f.0 in let known = f.2 in let told = f.3 in let xs = d.firsts in let oA = o + O.firsts_offset P S in let at = d.spot in let index : Val = words at.address.at at.count in
+    -- the spot and the length are read from memory
     sets ! (of_opd ! (load ! (through ! refl (fld ! refl (stop !))) (look_in ! 0 (sub ! 3 refl (whole !))))) refl (words_good at.address.at at.count told.1) $
     sets ! (of_opd ! (load ! (through ! refl (fld ! refl (stop !))) (look_in ! 0 (sub ! 2 refl (whole !))))) refl (tt, record { fits = told.0 }) $ sets ! (addr ! (through ! refl (fld ! refl (stop !)))) refl (tt, tt) $
-    let Left : SProp 𝓤 = mean 𝓛 (‵ (part_at CS full_share d.seconds b (o + O.eB P S)) ⊛ O.Rest P S LP LS 𝓛 b o d) in
-    use2 𝓛 (‵ (part_at CP full_share xs b oA) ⊛ raw Left) (O.cut P S LP LS 𝓛 b o d (O.inside P S d f.1)) $ split ! $
+    let Left : SProp 𝓤 = mean 𝓛 (‵ (part_at CS full_share d.seconds b (o + O.seconds_offset P S)) ⊛ O.Rest P S LP LS 𝓛 b o d) in
+    use2 𝓛 (‵ (part_at CP full_share xs b oA) ⊛ raw Left) (O.cut P S LP LS 𝓛 b o d (O.fields_value P S d f.1)) $ split ! $
     -- [the first column; the rest; the open borrow; obs; auth; half of κ's token; the others]
     name_new ! tt (CP.coded.code xs) (λ δ. move ! (2 ∷ 1 ∷ []) $ fjoin ! $ fpack ! CP.Denot (λ z. fsep ((mem CP).own_at z b oA) (fauth δ (CP.coded.code z))) xs $
     -- [the content; obs δ; the rest; the open borrow; obs; auth; ..]

@@ -1,5 +1,5 @@
 use Rattle.starlark_hash.proofs.Common.{ap, ◌∙◌}
-use Rattle.starlark_columns.proofs.Betweens.{between_front}
+use Rattle.starlark_columns.proofs.ItemsBetween.{between_front}
 use Rattle.starlark_vec2.proofs.TwoColumns.{len_is}
 use Rattle.std_collections.proofs.IterRuns.{gives_in_order, gives_in_reverse}
 use Rattle.starlark_vec2.proofs.vec2.into_iter.Vec2IntoIterator.into_iter.Goals as goal
