@@ -1,4 +1,4 @@
-//! `VecMap`, a list of entries in two columns. Its children alone see its field.
+//! `VecMap`, a list of entries in two columns. Only its child modules see its field.
 ghost use Rattle.std.specs.Prelude.{◌≡◌, ◌-◌, ◌^◌, ◌<◌, ◌≤◌, ◌==◌, [], ◌∷◌, ◌++◌, length, map, remove, reverse, slice_get, is_ok, None, if◌then◌else◌, IfOk, IfErr, IfSome, IsOk};
 ghost use Rattle.std.specs.Option.{option_map};
 ghost use Rattle.std.specs.Map.Iter.{TakesLast, ShowsInOrder, ShowsInReverse, GivesInOrder, GivesInReverse, deref, deref_pair};
@@ -17,6 +17,7 @@ mod retain;
 mod sort;
 
 use crate::columns::{search_columns, search_few};
+use crate::hash_search::BLOCK;
 pub use into_iter::{IntoIter, IntoIterHashed, IntoKeys, IntoValues};
 pub use iter::{Iter, IterHashed, Keys, Values};
 use starlark_hash::{Hashed, NoRoom, Query, StarlarkHashValue};
@@ -25,12 +26,12 @@ pub use starlark_vec2::{PairsMut as IterMut, ValuesMut};
 use std::alloc::{AllocError, Global};
 use std::marker::Model;
 
-/// A list of entries, looked up by hash and key. An entry is a key under a hash, and a value. Nothing keeps two entries
-/// from having the same hash and equal keys. It is seen as its entries and its capacity. Its walks go from both ends,
-/// with exact length and size hint.
+/// A list of entries, looked up by hash and key. An entry is a key with a hash, and a value. Nothing prevents two
+/// entries with the same hash and equal keys. The model is the list of the entries and the capacity. Its iterators are
+/// double-ended, with an exact length and size hint.
 #[derive(Drop)]
 pub struct VecMap<K, V> {
-    // The keys with their values, and the number of the hash of each.
+    // The keys with their values, and the number of each key's hash.
     columns: Vec2<(K, V), u32>,
 }
 
@@ -43,7 +44,7 @@ impl<K, V> Model for VecMap<K, V> {
     ghost view = { λ m. entry_list (map entry_of m.columns.pairs) m.columns.capacity };
 }
 
-// Making
+// Construction
 
 impl<K, V> VecMap<K, V> {
     /// A map without entries. It takes no memory.
@@ -56,8 +57,8 @@ impl<K, V> VecMap<K, V> {
         }
     }
 
-    /// A map without entries, with room for `capacity` of them. Capacity 0 takes no memory; where another finds none,
-    /// nothing is made.
+    /// A map without entries, with room for `capacity` of them. Capacity 0 needs no memory. It is refused if memory is
+    /// needed and there is none.
     #[inline]
     pub fn with_capacity(alloc: Global, capacity: usize) -> Result<Self, AllocError>
         ensures made { IfOk result (λ m. m ≡ entry_list [] capacity) }
@@ -72,7 +73,7 @@ impl<K, V> VecMap<K, V> {
 // Reading
 
 impl<K, V> VecMap<K, V> {
-    /// How many entries there are.
+    /// The number of entries.
     #[inline]
     pub fn len(&self) -> usize
         ensures len { result ≡ length self.now.entries }
@@ -98,10 +99,10 @@ impl<K, V> VecMap<K, V> {
         self.columns.capacity()
     }
 
-    /// The first index under the hash whose key `accepts` answers true for. It is asked about the keys under this hash
-    /// alone, from the front, about each at most once, its state carried on, until it accepts one; `None` says that it
-    /// refused them all. Required is no more than that it may be called on those keys, in the states that its refusals
-    /// leave.
+    /// The first index under the hash for whose key `accepts` returns true. It is called only with keys under this
+    /// hash, from the front, with each at most once, each time in the state that the call before left, until it returns
+    /// true. `None` means that it returned false for all of them. It must be possible to call it with those keys, in
+    /// the states that its refusals leave, and no more is required.
     #[inline]
     pub fn get_index_of_hashed_raw<F: FnMut(&K) -> bool>(
         &self,
@@ -127,8 +128,8 @@ impl<K, V> VecMap<K, V> {
         self.get_index_of_hashed_raw(hash, move |k: &K| query.stands_for(k))
     }
 
-    /// The first index under the query's hash whose key the query stands for, among at most 32 entries. The code is
-    /// short, since it has one way to search. Rust has no such call.
+    /// The first index under the query's hash whose key the query stands for, in a map of at most 32 entries. The code
+    /// is short, since it has one search only. Rust has no such call.
     #[inline(always)]
     pub fn get_index_of_hashed_among_few<Q: Query<K>>(&self, key: Hashed<Q>) -> Option<usize>
     where
@@ -137,12 +138,16 @@ impl<K, V> VecMap<K, V> {
         ensures index { result ≡ position_of (hash_of key) (Q.stands_for (key_of key)) self.now.entries }
         ensures within { IfSome result (λ i. i < length self.now.entries) }
     {
+        // This is never so. The compiler learns it from the test, and a hit takes four instructions less.
+        if self.len() > BLOCK {
+            return None;
+        }
         let hash = key.hash();
         let query = key.into_key();
         self.search_few(hash, move |k: &K| query.stands_for(k))
     }
 
-    // The first index under the hash whose key `accepts` answers true for.
+    // The first index under the hash for whose key `accepts` returns true, in a map of at most 32 entries.
     #[inline(always)]
     fn search_few<F: FnMut(&K) -> bool>(&self, hash: StarlarkHashValue, accepts: F) -> Option<usize>
         requires few { length self.now.entries ≤ 32 }
@@ -152,7 +157,7 @@ impl<K, V> VecMap<K, V> {
         search_few(self.columns.firsts(), self.columns.seconds(), hash, accepts)
     }
 
-    /// The key and the value at this index, where there is an entry.
+    /// The key and the value at this index, if there is an entry.
     #[inline]
     pub fn get_index(&self, index: usize) -> Option<(&K, &V)>
         ensures { option_map deref_pair result ≡ option_map pair_of (slice_get self.now.entries index) }
@@ -161,7 +166,7 @@ impl<K, V> VecMap<K, V> {
         Some((&pair.0, &pair.1))
     }
 
-    /// The entry at this index. Rust's is unsafe; here the index is proved to be within the length.
+    /// The entry at this index. It is unsafe in Rust; here the index is proved to be within the length.
     #[inline]
     pub fn get_unchecked(&self, index: usize) -> (Hashed<&K>, &V)
         requires { index < length self.now.entries }
@@ -173,10 +178,10 @@ impl<K, V> VecMap<K, V> {
     }
 }
 
-// Walking
+// Iterators
 
 impl<K, V> VecMap<K, V> {
-    /// The keys and values of the entries, side by side in their order. Rust has no such call.
+    /// The keys and values of the entries as a slice, in their order. Rust has no such call.
     #[tactic(auto, using(crate::proofs::Views::views))]
     #[inline]
     pub fn pairs(&self) -> &[(K, V)]
@@ -231,7 +236,8 @@ impl<K, V> VecMap<K, V> {
         ensures runs_back { ShowsInReverse (deref_entry {K = K} {V = V}) }
         ensures few { length self.now.entries < 2 ^ 63 }
     {
-        let _hashes = self.columns.seconds(); // a hash takes four bytes
+        // A hash takes four bytes, so there are fewer than 2^63.
+        let _hashes = self.columns.seconds();
         IterHashed::new(self.columns.iter())
     }
 }
@@ -291,9 +297,9 @@ impl<K: Drop, V: Drop> IntoIterator for VecMap<K, V> {
 // Growing
 
 impl<K, V> VecMap<K, V> {
-    /// Makes room for so many further entries. It grows only where their room is missing, to the largest of what is
-    /// needed, 4 and twice the capacity. Where memory is refused, the map is as it was. Where the room is there, it is
-    /// not refused and nothing changes.
+    /// Makes room for `additional` further entries. The map grows only if there is less room: to the largest of the
+    /// needed capacity, 4, and twice the old capacity. If memory is refused, the map is unchanged. With enough room it
+    /// is never refused, and nothing changes.
     #[inline]
     pub fn reserve(&mut self, additional: usize) -> Result<(), AllocError>
         ensures list { self.new ≡ (if is_ok result then list.reserve self.old additional else self.old) }
@@ -302,8 +308,8 @@ impl<K, V> VecMap<K, V> {
         self.columns.reserve(additional)
     }
 
-    /// Puts an entry at the end; an entry with the same hash and an equal key stays where it is. Where there is no
-    /// memory the map is as it was, and the entry comes back; that can't be while the length is below the capacity.
+    /// Appends an entry; an entry with the same hash and an equal key stays where it is. If there is no memory, the map
+    /// is unchanged and the entry is handed back; that cannot happen while the length is below the capacity.
     #[inline]
     pub fn insert_hashed_unique_unchecked(
         &mut self,
@@ -321,7 +327,7 @@ impl<K, V> VecMap<K, V> {
         Ok(())
     }
 
-    /// Puts an entry at the end where the room for it is there, as after `reserve`. The capacity stays.
+    /// Appends an entry for which there is room, as there is after `reserve`. The capacity stays.
     #[inline]
     pub fn push_reserved(&mut self, key: Hashed<K>, value: V)
         requires { length self.old.entries < self.old.capacity }
@@ -332,10 +338,10 @@ impl<K, V> VecMap<K, V> {
     }
 }
 
-// Shrinking and turning
+// Removal and order
 
 impl<K, V> VecMap<K, V> {
-    /// Takes the entry at this index out. Those after it move up. The capacity stays.
+    /// Removes and returns the entry at this index. Each later entry moves one index down. The capacity stays.
     #[tactic(auto, using(crate::proofs::Views::views))]
     #[inline]
     pub fn remove(&mut self, index: usize) -> (Hashed<K>, V)
@@ -350,7 +356,7 @@ impl<K, V> VecMap<K, V> {
         )
     }
 
-    /// Takes the last entry out, where there is one. The capacity stays.
+    /// Removes and returns the last entry, if there is one. The capacity stays.
     #[inline]
     pub fn pop(&mut self) -> Option<(Hashed<K>, V)>
         ensures taken { TakesLast (λ e. e) self.old.entries result self.new.entries }
@@ -363,7 +369,7 @@ impl<K, V> VecMap<K, V> {
         ))
     }
 
-    /// Turns the order of the entries round. The capacity stays.
+    /// Reverses the order of the entries. The capacity stays.
     #[tactic(auto, using(crate::proofs::Views::views))]
     #[inline]
     pub fn reverse(&mut self)
@@ -374,8 +380,8 @@ impl<K, V> VecMap<K, V> {
 }
 
 impl<K: Eq, V> VecMap<K, V> {
-    /// Takes the first entry out that stands under the query's hash and whose key the query stands for, where there is
-    /// one. Those after it move up. The capacity stays.
+    /// Removes and returns the first entry under the query's hash whose key the query stands for, if there is one. Each
+    /// later entry moves one index down. The capacity stays.
     pub fn remove_hashed_entry<Q: Query<K>>(&mut self, key: Hashed<Q>) -> Option<(K, V)>
         ensures taken { result ≡ option_map pair_of (entry_at self.old.entries (position_of (hash_of key) (Q.stands_for (key_of key)) self.old.entries)) }
         ensures list { self.new ≡ with_entries self.old (without self.old.entries (position_of (hash_of key) (Q.stands_for (key_of key)) self.old.entries)) }

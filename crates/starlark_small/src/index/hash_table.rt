@@ -152,7 +152,7 @@ impl HashTable {
     {
         // A hash is below 2^32.
         let _number = hash.get();
-        let Some(slot) = self.table.vacancy_unchecked(hash) else {
+        let Some(slot) = self.table.vacancy(hash) else {
             return false;
         };
         if self.table.room() == 0 {
