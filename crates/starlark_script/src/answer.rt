@@ -1,5 +1,5 @@
-//! What each line does to the map, and what is replied. Each that changes the map has a small function over the
-//! entries seen as bytes, so that a wrong body is refused there, with few facts in sight.
+//! The effect of each line on the map, and its reply. Each line that changes the map has a small function over the entries
+//! seen as bytes, so that the check refuses a mutant there, with few facts in scope.
 ghost use Rattle.std.specs.Prelude.{◌≡◌, ◌≢◌, ℕ, ◌-◌, ◌<◌, ◌≤◌, false, nat_le, if◌then◌else◌, [], length, remove, reverse, slice_get, IfOk, OnOk, IfErr, OnErr, Some, None, codes, decimal, flat_map};
 ghost use Rattle.std.specs.Io.KnownBytes.{Keeps, Appends};
 ghost use Rattle.std.specs.Option.{option_map};
@@ -21,10 +21,9 @@ use starlark_small::{IterHashed, SmallMap};
 use std::alloc::Global;
 use std::io::Write;
 
-/// Does what a line asks for, and writes the reply. Keys are the same where their hashes and their bytes are, and are
-/// sorted by their bytes. Memory is refused only to a new key, to a sort of keys that do not ascend, and to a
-/// reservation of more than 0; then nothing is written. What `reserve` and `slim` leave of room and index is what the
-/// map's calls leave.
+/// Does what a line asks for, and writes the reply. Keys are equal if their hashes and their bytes are, and are sorted by
+/// their bytes. Memory is refused only to a new key, to a sort of keys that do not ascend, and to a reservation of more
+/// than 0; then nothing is written. `reserve` and `slim` leave the room and the hash index that the map's calls leave.
 pub fn answer<W: Write>(
     alloc: Global,
     map: &mut SmallMap<String, i64>,
@@ -75,7 +74,7 @@ pub fn answer<W: Write>(
     }
 }
 
-// Puts a value under a key that is there, or inserts a copy of a new one.
+// Sets the value under a key that is there, or inserts a copy of a new key.
 fn put(
     alloc: Global,
     map: &mut SmallMap<String, i64>,
@@ -92,25 +91,28 @@ fn put(
         *there = value;
         return Ok(Some(old));
     }
-    insert_copy(alloc, map, key, value)
+    insert_copy(alloc, map, key, value)?;
+    Ok(None)
 }
 
-// Inserts a copy of the key.
+// Appends a copy of a key that is new.
 fn insert_copy(
     alloc: Global,
     map: &mut SmallMap<String, i64>,
     key: Hashed<TextKey<'_>>,
     value: i64,
-) -> Result<Option<i64>, PlayFault>
-    ensures old { IfOk result (λ old. old ≡ value_at (entries_of map.old.entries) (match_of bytes_eq (entries_of map.old.entries) (shown_key key.entry))) }
+) -> Result<(), PlayFault>
+    requires { match_of bytes_eq (entries_of map.old.entries) (shown_key key) ≡ None }
     ensures entries { OnOk result (entries_of map.new.entries ≡ insert_entry bytes_eq (entries_of map.old.entries) (shown_key key.entry) value) }
     ensures err { IfErr result (λ fault. fault ≡ PlayFault.Memory) }
 {
     let Ok(text) = String::from_str(alloc, key.key().0) else {
         return Err(PlayFault::Memory);
     };
-    map.insert_hashed(Hashed::new_unchecked(key.hash(), text), value)
-        .map_err(|_| PlayFault::Memory)
+    match map.push(Hashed::new_unchecked(key.hash(), text), value) {
+        Ok(_) => Ok(()),
+        Err(_) => Err(PlayFault::Memory),
+    }
 }
 
 fn get(map: &SmallMap<String, i64>, key: Hashed<TextKey<'_>>) -> Option<i64>
@@ -119,7 +121,7 @@ fn get(map: &SmallMap<String, i64>, key: Hashed<TextKey<'_>>) -> Option<i64>
     map.get_hashed(key.as_ref()).copied()
 }
 
-// Removes an entry, and answers its value.
+// Removes an entry, and returns its value.
 fn remove_key(map: &mut SmallMap<String, i64>, key: Hashed<TextKey<'_>>) -> Option<i64>
     ensures old { result ≡ value_at (entries_of map.old.entries) (match_of bytes_eq (entries_of map.old.entries) (shown_key key.entry)) }
     ensures entries { entries_of map.new.entries ≡ without (entries_of map.old.entries) (match_of bytes_eq (entries_of map.old.entries) (shown_key key.entry)) }
@@ -128,7 +130,7 @@ fn remove_key(map: &mut SmallMap<String, i64>, key: Hashed<TextKey<'_>>) -> Opti
     Some(value)
 }
 
-// Turns the order of the entries round.
+// Reverses the order of the entries.
 #[tactic(auto, using(crate::proofs::EntriesLemmas::reversed))]
 fn turn(map: &mut SmallMap<String, i64>)
     ensures { entries_of map.new.entries ≡ reverse (entries_of map.old.entries) }
@@ -154,7 +156,7 @@ fn clear(map: &mut SmallMap<String, i64>)
     map.clear();
 }
 
-// Makes room for so many new entries.
+// Makes room for `additional` new entries.
 fn reserve(map: &mut SmallMap<String, i64>, additional: usize) -> Result<(), PlayFault>
     ensures entries { entries_of map.new.entries ≡ entries_of map.old.entries }
     ensures room { OnOk result (additional ≤ map.new.room) }
@@ -168,7 +170,7 @@ fn reserve(map: &mut SmallMap<String, i64>, additional: usize) -> Result<(), Pla
     }
 }
 
-// Drops the index where the map is short enough to do without.
+// Drops the hash index if the map is short enough to do without.
 fn slim(map: &mut SmallMap<String, i64>)
     ensures entries { entries_of map.new.entries ≡ entries_of map.old.entries }
     ensures indexed { map.new.indexed ≡ (if nat_le (length map.old.entries) unindexed then false else map.old.indexed) }

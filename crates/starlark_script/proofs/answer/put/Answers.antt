@@ -1,5 +1,7 @@
-use Rattle.starlark_hash.proofs.Common.{Some, ap, ◌∙◌, rules, w64, to_z-of_z}
+use Rattle.starlark_hash.proofs.Common.{Some, ap, sym, ◌∙◌, rules, w64, to_z-of_z, bytes_eq}
+use Rattle.starlark_hash.specs.Entries.{match_of, value_at}
 use Rattle.starlark_hash.specs.HashValue.{hash_of, key_of}
+use Rattle.starlark_script.specs.Shown.{shown_key}
 use Rattle.starlark_script.specs.ShownEntries.{entries_of}
 use Rattle.starlark_script.proofs.EntriesLemmas.{value-entries_of, written, lacking}
 use Rattle.starlark_script.proofs.Results.{OnErr-always}
@@ -19,8 +21,19 @@ returns-in-Some-clause-entries c =
     (written c.args.map.now.entries (hash_of c.args.key) (key_of c.args.key).0.now c.in-Some.there.now c.args.value
     (rw (c.as_ref.ensures.hash, c.as_ref.ensures.key) at c.in-Some.ensures.value)))
 
-pub returns-clause-needed : goal.returns-clause-needed
-returns-clause-needed c =
-    OnErr-always c.insert_copy.result _
+pub insert_copy-requires : goal.insert_copy-requires
+insert_copy-requires c =
+    ap (λ m. match_of bytes_eq (entries_of m.entries) (shown_key c.args.key)) c.get_mut_hashed.follows.holds-at-none
+    ∙ lacking c.args.map.now.entries (hash_of c.args.key) (key_of c.args.key).0.now
+    (rw (c.as_ref.ensures.hash, c.as_ref.ensures.key) at c.in_default.ensures.value)
+
+pub returns-in_err-insert_copy-clause-needed : goal.returns-in_err-insert_copy-clause-needed
+returns-in_err-insert_copy-clause-needed c =
+    OnErr-always c.from_residual.result _
     (lacking c.args.map.now.entries (hash_of c.args.key) (key_of c.args.key).0.now
     (rw (c.as_ref.ensures.hash, c.as_ref.ensures.key) at c.in_default.ensures.value))
+
+pub returns-clause-old : goal.returns-clause-old
+returns-clause-old c =
+    sym (ap (value_at (entries_of c.args.map.now.entries)) (lacking c.args.map.now.entries (hash_of c.args.key) (key_of c.args.key).0.now
+    (rw (c.as_ref.ensures.hash, c.as_ref.ensures.key) at c.in_default.ensures.value)))
