@@ -1,10 +1,13 @@
 -- The runs of an iterator that gives each item beside `()` are runs of the one inside.
-use Rattle.starlark_hash.proofs.Common.{◌≡◌, Bool, true, false, List, [], ◌∷◌, ◌++◌, map, Option, Result, Ok, Err, OnOk, is_some, refl, sym, ap, subst, ◌∙◌, ◌||◌, IsEquivalence, HashWrites, Drains, Yields, is_member, map-append, map-id, is_some-update_all}
+use Rattle.starlark_hash.proofs.Common.{◌≡◌, ◌≤◌, ◌+◌, ℕ, arith, common_steps, length, length-map, option_map_or, Bool, true, false, List, [], ◌∷◌, ◌++◌, map, Option, Result, Ok, Err, OnOk, is_some, refl, sym, ap, subst, ◌∙◌, ◌||◌, IsEquivalence, HashWrites, Drains, Yields, is_member, map-append, map-id, is_some-update_all}
 use Rattle.std.specs.Iterator.{Count}
 use Rattle.std.specs.Iterator.Runs.{WholeRun}
 use Rattle.std.proofs.lemmas.Simd.{map-map}
 use Rattle.starlark_hash.specs.Hasher.{own_hash}
-use Rattle.starlark_hash.specs.Entries.{Entry}
+use Rattle.starlark_hash.specs.Entries.{Entry, match_of, set_value_at}
+use Rattle.starlark_hash.specs.Insert.{insert_entry}
+use Rattle.starlark_hash.specs.declared.hashed.Hashed.{Hashed}
+use Rattle.starlark_hash.proofs.EntryLemmas.{length-set_value_at}
 use Rattle.starlark_hash.specs.Lookup.{found}
 use Rattle.starlark_small.specs.Lookup.{contains}
 use Rattle.starlark_small.specs.Collect.{Collects, Extends, InsertsItems, IsExtended, insert_all, own_entry}
@@ -51,7 +54,7 @@ module _ {S A T : Type 0} {steps : S → Option A → S → Type 0} {eq : T → 
       → becomes iter it → Extends eq (beside entry) (StepsBeside steps) (λ s t. t ≡ s) it old new r → Extends eq entry steps becomes iter old new r
   extends_alone {becomes = becomes} {iter = iter} it {old} {new} {r} made put = record { it = put.it; made = subst (becomes iter) (sym put.made) made; inserts = inserts_alone put.it old new r put.inserts }
 
--- what follows where the items fit follows from what says that they do
+-- `IsExtended` under a stronger condition: where `said` implies `fits`, what holds where `fits` does holds where `said` does
 pub extended_where : {K V A E : Type 0} (fits said : Type 0) (old new : Map K V) (r : Result A E) → (said → fits) → IsExtended fits old new r → IsExtended said old new r
 extended_where fits said old new r on is = assumption (λ (s : said). is.succeeds (on s), λ (s : said). is.spare (on s))
 
@@ -60,6 +63,18 @@ module _ {T A S U : Type 0} {eq : T → T → Bool} {entry : A → Entry T (Unit
   pub collected : Collects eq entry steps becomes remaining iter set → (P : List A → Type 0) → ((xs : List A) → set.entries ≡ insert_all eq [] (map entry xs) → P xs)
       → (it : S) × becomes iter it × WholeRun steps it (λ p. P p.items)
   collected has P holds = (has.it, has.made, run_of steps has.it has.items P has.drained (holds has.items has.entries))
+
+-- each item that is inserted adds one entry at most
+module _ {K V : Type 0} (eq : K → K → Bool) where
+  one_more_at_most : (es : List (Entry K V)) (key : Hashed K) (value : V) (o : Option ℕ) → length (option_map_or (λ i. set_value_at es i value) o (es ++ (key, value) ∷ [])) ≤ length es + 1
+  one_more_at_most es key value o = grind (arith, common_steps, length-set_value_at es)
+
+  length-insert_all : (xs es : List (Entry K V)) → length (insert_all eq es xs) ≤ length es + length xs
+  length-insert_all [] es = omega arith
+  length-insert_all (x ∷ xs) es = omega (arith, one_more_at_most es x.0 x.1 (match_of eq es x.0), length-insert_all xs (insert_entry eq es x.0 x.1))
+
+  pub length-collected : {A : Type 0} (item : A → Entry K V) (xs : List A) (es : List (Entry K V)) → es ≡ insert_all eq [] (map item xs) → length es ≤ length xs
+  length-collected item xs es is = omega (arith, ap length is, length-insert_all (map item xs) [], length-map xs item)
 
 -- what a set has once an iterator's items went in
 module _ {T : Type 0} {eq : T → T → Bool} (laws : IsEquivalence eq) (feeds : T → HashWrites) (alike : (x y : T) → eq x y ≡ true → feeds x ≡ feeds y) where

@@ -9,9 +9,9 @@ use Rattle.starlark_hash.specs.Entries.{Entry, entry_hash, entry_key, stands_und
 use Rattle.starlark_hash.specs.Lookup.{found}
 use Rattle.starlark_small.specs.Lookup.{AreOwnEntries}
 use Rattle.starlark_small.proofs.CallerLookup.{is_some-found}
-use Rattle.starlark_sets.specs.Difference.{difference, lacks}
+use Rattle.starlark_sets.specs.Difference.{TellsDifference, difference, lacks}
 use Rattle.starlark_sets.specs.Set.{Elements}
-use Rattle.starlark_sets.specs.Union.{union}
+use Rattle.starlark_sets.specs.Union.{TellsUnion}
 use Rattle.starlark_sets.proofs.Differences.{found_any, lacks_alike}
 
 module _ {T : Type 0} (eq : T → T → Bool) (laws : IsEquivalence eq) (feeds : T → HashWrites) (alike : (x y : T) → eq x y ≡ true → feeds x ≡ feeds y) where
@@ -35,7 +35,7 @@ module _ {T : Type 0} (eq : T → T → Bool) (laws : IsEquivalence eq) (feeds :
   any_member (e ∷ es) own q = λ i. stands_own q e (All-head is_own e es own) i || any_member es (All-tail is_own e es own) q i
 
   -- a difference has what the one has and the other lacks
-  pub members-difference : (es fs : Elements T) → AreOwnEntries feeds es → (q : T) → is_member eq (map entry_key (difference eq es fs)) q ≡ (has es q && not (has fs q))
+  pub members-difference : TellsDifference eq feeds
   unfolding AreOwnEntries
   members-difference es fs own q =
       let member = any_member (difference eq es fs) (All-filter (lacks eq fs) is_own es own) q in
@@ -44,7 +44,7 @@ module _ {T : Type 0} (eq : T → T → Bool) (laws : IsEquivalence eq) (feeds :
       grind arith
 
   -- a union has what either has
-  pub members-union : (es fs : Elements T) → AreOwnEntries feeds es → AreOwnEntries feeds fs → (q : T) → is_member eq (map entry_key (union eq es fs)) q ≡ (has es q || has fs q)
+  pub members-union : TellsUnion eq feeds
   unfolding AreOwnEntries
   members-union es fs mine theirs q =
       ap (λ l. is_member eq l q) (map-append entry_key es (difference eq fs es))

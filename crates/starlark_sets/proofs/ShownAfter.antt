@@ -1,5 +1,5 @@
 -- A call that changes a set, gives it up and shows what is there meets its contract, whatever changes it and whatever is shown: the set is lent to the call that changes it and comes back, is then written no more, and is shown. Assumes `Logic`.
-use Rattle.starlark_columns.proofs.Walking.{◌≡◌, refl, sym, ap, subst, ℕ, List, [], ◌∷◌, none, Ura, Fn, named, Ty, Val, vptr, SProp, ent, sep, id⊢, ex_e, snd∗, Lft, GName, Share, ftrue, flft, WpFn, Logic, sem, ◌⊑◌, ⊑_trans, meet_⊑_right, fact, tables, ‵, raw, ◌⊛◌, some, later, ◌$◌, ◌∵◌, !, qed, by, move, keep, drop, use1, use2, use3, split, split3, join, pick, fsplit, fsplit3, fjoin, fpick, fpack, done, such_by, follows_by, Item, await, rewrite, stop, addr, of_opd, and_then, no_more, returns, enter, alloc_all, pass_all, free_all, look_at, get, through, sets, lands_as, no, yes, RattleType, owns, follows_so, Is, shows, param, layout, Laws, param_laws, Bor, MutBor, MutRef, ShrRef, mut_vals, mut_Tells, shr_vals, shr_Tells, plain, types_at, mut_ref_to, nothing, heard, only, peeks, calls_at, Clauses, Ended, closing, Lasts, ensured, lasts, Meets, triple_of, Contract, Triple, framed, walk_of, Goes-spent_ref, Goes-blank, Good, proved_at, ⊤, tells, spent, drops, leaves}
+use Rattle.starlark_columns.proofs.LogicNames.{◌≡◌, refl, sym, ap, subst, ℕ, List, [], ◌∷◌, none, Ura, Fn, named, Ty, Val, vptr, SProp, ent, sep, id⊢, ex_e, snd∗, Lft, GName, Share, ftrue, flft, WpFn, Logic, sem, ◌⊑◌, ⊑_trans, meet_⊑_right, fact, tables, ‵, raw, ◌⊛◌, some, later, ◌$◌, ◌∵◌, !, qed, by, move, keep, drop, use1, use2, use3, split, split3, join, pick, fsplit, fsplit3, fjoin, fpick, fpack, done, such_by, follows_by, Item, await, rewrite, stop, addr, of_opd, and_then, no_more, returns, enter, alloc_all, pass_all, free_all, look_at, get, through, sets, lands_as, no, yes, RattleType, owns, follows_so, Is, shows, param, layout, Laws, param_laws, Bor, MutBor, MutRef, ShrRef, mut_vals, mut_Tells, shr_vals, shr_Tells, plain, types_at, mut_ref_to, nothing, heard, only, peeks, calls_at, Clauses, Ended, closing, Lasts, ensured, lasts, Meets, triple_of, Contract, Triple, framed, walk_of, Goes-spent_ref, Goes-blank, Good, proved_at, ⊤, tells, spent, drops, leaves}
 use contract.Lifetimes.{Lfts}
 use contract.Running.{Running, MachineTables}
 use denote.Signature.{Slot, shr_ref_to}
@@ -8,7 +8,7 @@ use mir.Syntax.{Callee, ty_ref, mut, imm, local, value_local, erased, place, der
 use prog.Model.{Model}
 use prog.Wp.{Closed}
 use Rattle.starlark_columns.proofs.LoneValue.{lone_value}
-use Rattle.starlark_columns.proofs.Steps.{Kept, within, good_value, lent_within, back_again}
+use Rattle.starlark_columns.proofs.ProofSteps.{Kept, within, good_value, lent_within, back_again}
 
 -- what is said of a value at its end may be said less strongly
 module _ {M : Type 1} {𝓤 : Ura M} (𝓛 : Logic 𝓤) (R : RattleType) (γ : GName) (P Q : R.Denot → Type 0) (weaker : (n : R.Denot) → P n → Q n) where

@@ -1,5 +1,5 @@
 -- Sets of an iterator's items.
-use Rattle.std.specs.Prelude.{◌≡◌, ◌||◌, [], Bool, false, Option, map}
+use Rattle.std.specs.Prelude.{◌≡◌, ◌≤◌, ◌||◌, [], Bool, false, Option, length, map}
 use Rattle.std.specs.Hash.{HashWrites}
 use Rattle.std.specs.Iterator.{Count}
 use Rattle.std.specs.Iterator.Runs.{WholeRun}
@@ -32,6 +32,10 @@ module _ {T S U : Type 0} (eq : T → T → Bool) (feeds : T → HashWrites) (st
     pub found : HasEach eq feeds steps becomes iter (λ _. false) s
     pub set : Collects eq (own_element feeds) steps becomes remaining iter s
     pub own : AreOwn feeds s
+
+-- the set has no more elements than the iterator has items
+abbrev pub HasNoMore : {T A S U : Type 0} → (S → Option A → S → Type 0) → (U → S → Type 0) → U → Set T → Type 0
+HasNoMore {T} {A} {S} {U} steps becomes iter s = (it : S) × becomes iter it × WholeRun steps it (λ p. length s.entries ≤ length p.items)
 
 -- the set has the iterator's elements, inserted in their order
 abbrev pub InsertsEach : {T S U : Type 0} → (T → T → Bool) → (S → Option (Hashed T) → S → Type 0) → (U → S → Type 0) → U → Set T → Type 0

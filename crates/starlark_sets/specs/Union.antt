@@ -1,10 +1,15 @@
 -- What is in either of two sets.
-use Rattle.std.specs.Prelude.{◌≡◌, ℕ, ◌+◌, ◌≤◌, List, [], ◌∷◌, ◌++◌, Option, Some, None, Bool, nat_lt, ◌^◌, if◌then◌else◌, map}
+use Rattle.std.specs.Prelude.{◌≡◌, ◌||◌, is_some, ℕ, ◌+◌, ◌≤◌, List, [], ◌∷◌, ◌++◌, Option, Some, None, Bool, nat_lt, ◌^◌, if◌then◌else◌, map}
 use Rattle.std.specs.Borrow.{Bor}
+use Rattle.std.specs.Hash.{HashWrites}
 use Rattle.std.specs.Iterator.{YieldsFirstRef}
 use Rattle.std.specs.Iterator.Runs.{EveryRun, ItemsMapTo}
 use Rattle.std.specs.Map.Iter.{deref}
+use Rattle.std.specs.Set.{is_member}
 use Rattle.starlark_hash.specs.Entries.{entry_key}
+use Rattle.starlark_hash.specs.Hasher.{own_hash}
+use Rattle.starlark_hash.specs.Lookup.{found}
+use Rattle.starlark_small.specs.Lookup.{AreOwnEntries}
 use Rattle.starlark_sets.specs.Difference.{Difference, DifferenceSteps, difference}
 use Rattle.starlark_sets.specs.Set.{Elements}
 
@@ -30,6 +35,11 @@ module _ {T : Type 0} (eq : T → T → Bool) where
   -- a step gives the first element to come
   abbrev pub UnionSteps : Union T → Option (Bor T) → Union T → Type 0
   UnionSteps s r t = YieldsFirstRef union_rest s r t × StepsThere s.first s r t
+
+  -- a union has what is in either list, where each element stands under its own hash
+  abbrev pub TellsUnion : (T → HashWrites) → Type 0
+  TellsUnion feeds = (es fs : Elements T) → AreOwnEntries feeds es → AreOwnEntries feeds fs → (element : T)
+      → is_member eq (map entry_key (union es fs)) element ≡ (is_some (found (eq element) (own_hash feeds element) es) || is_some (found (eq element) (own_hash feeds element) fs))
 
   -- each run of `next` shows the elements that were still to come, in order
   abbrev pub ShowsUnion : Type 0

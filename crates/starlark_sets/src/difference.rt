@@ -25,6 +25,8 @@ impl<'a, T: Eq> Model for Difference<'a, T> {
 
     ghost view = { λ d. record { left = d.left; other = d.other.now.entries } };
 
+    // No two elements that are left are alike, so each of the other set strikes out one at most: the lower bound of
+    // `size_hint` needs it.
     ghost invariant = { λ d. IsSingle T.eq d.left };
 }
 

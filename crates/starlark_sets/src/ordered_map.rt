@@ -162,7 +162,8 @@ impl<K: Eq, V> OrderedMap<K, V> {
         ensures inserts { OnOk result (Inserts K.eq self.old self.new (own_hashed K.hash_input key) value) }
         // Keys that are under their own hashes stay so, also where this one is refused.
         ensures own { AreOwn K.hash_input self.old → AreOwn K.hash_input self.new }
-        // Refused: only a new key, only without room. Key and value come back, and entries and index are unchanged.
+        // Refused: only a new key, only without room. Key and value come back, and entries and index are unchanged; the
+        // capacity may have grown.
         ensures refused { OnErr result (IsRefusedInsertion K.eq self.old self.new (own_hashed K.hash_input key)) }
         ensures handed_back { IfErr result (λ refused. refused.0 ≡ (key, value)) }
         // Done or refused: no room is lost, and with room to spare no memory is asked for.
@@ -182,7 +183,7 @@ impl<K: Eq, V> OrderedMap<K, V> {
     }
 
     /// Removes the entry under the query's own hash whose key the query stands for, drops its key and answers its
-    /// value. Those after it move up. Capacity and index stay.
+    /// value. The index of each later one falls by one. Capacity and index stay.
     #[inline]
     pub fn remove<Q: Query<K> + Hash>(&mut self, key: Q) -> Option<V>
     where

@@ -158,7 +158,8 @@ impl<T: Eq> OrderedSet<T> {
         ensures inserts { OnOk result (Inserts T.eq self.old self.new (own_hashed T.hash_input element) tt) }
         // Elements that are under their own hashes stay so, also where this one is refused.
         ensures own { AreOwn T.hash_input self.old → AreOwn T.hash_input self.new }
-        // Refused: only a new element, only without room. It comes back, and elements and index are unchanged.
+        // Refused: only a new element, only without room. It comes back, and elements and index are unchanged; the capacity
+        // may have grown.
         ensures refused { OnErr result (IsRefusedInsertion T.eq self.old self.new (own_hashed T.hash_input element)) }
         ensures handed_back { IfErr result (λ refused. refused.0 ≡ element) }
         // Done or refused: no room is lost, and with room to spare no memory is asked for.
@@ -179,7 +180,8 @@ impl<T: Eq> OrderedSet<T> {
         ensures updates { OnOk result (Updates T.eq T.hash_input self.old self.new element (Some tt)) }
         // Elements that are under their own hashes stay so, also where this one is refused.
         ensures own { AreOwn T.hash_input self.old → AreOwn T.hash_input self.new }
-        // Refused: only without room. The element comes back, and elements and index are unchanged.
+        // Refused: only without room. The element comes back, and elements and index are unchanged; the capacity may have
+        // grown.
         ensures refused { OnErr result (IsRefused self.old self.new) }
         ensures full { OnErr result (self.old.room ≡ 0) }
         ensures handed_back { IfErr result (λ refused. refused.0 ≡ element) }
@@ -197,8 +199,8 @@ impl<T: Eq> OrderedSet<T> {
         self.0.sort()
     }
 
-    /// Removes the element under the query's own hash that the query stands for, and answers it. Those after it move up.
-    /// Capacity and index stay.
+    /// Removes the element under the query's own hash that the query stands for, and answers it. The index of each
+    /// later one falls by one. Capacity and index stay.
     #[inline]
     pub fn take<Q: Query<T> + Hash>(&mut self, query: Q) -> Option<T>
         // The stored element that was found comes back, and the query stands for it.

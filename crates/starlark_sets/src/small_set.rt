@@ -54,7 +54,7 @@ impl<T: Eq> SmallSet<T> {
     }
 
     /// An empty set of this capacity, with room for so many elements, and with an index where so many need one. Where
-    /// memory is refused, nothing is made; capacity 0 asks for none.
+    /// memory is refused, or for more than 3,489,660,928 elements, nothing is made; capacity 0 asks for none.
     pub fn with_capacity(alloc: Global, capacity: usize) -> Result<Self, AllocError>
         ensures { MakesEmptyFor capacity result }
     {

@@ -10,7 +10,7 @@ use Rattle.starlark_hash.specs.Insert.{insert_entry}
 use Rattle.starlark_hash.proofs.EntryLemmas.{length-set_value_at, set_value_at-key}
 use Rattle.starlark_hash.specs.Retain.{CalledAtEntry, Retains}
 use Rattle.starlark_vecmap.specs.EntryList.{with_values}
-use Rattle.starlark_vecmap.proofs.ValuesWritten.{hashed_keys-with_values, length-with_values}
+use Rattle.starlark_vecmap.proofs.WrittenValues.{hashed_keys-with_values, length-with_values}
 use Rattle.starlark_small.specs.Along.{key-at}
 use Rattle.starlark_small.specs.Lookup.{AreOwnEntries}
 use Rattle.starlark_small.specs.Collect.{insert_all, own_entry}

@@ -1,6 +1,6 @@
 -- What a walk that writes the values of a map keeps.
 use Rattle.starlark_hash.proofs.Common.{Bool}
-use Rattle.starlark_vecmap.proofs.ValuesWritten.{keys-with_values, length-with_values}
+use Rattle.starlark_vecmap.proofs.WrittenValues.{keys-with_values, length-with_values}
 use Rattle.starlark_small.specs.Lend.{KeepsAllButValues}
 use Rattle.starlark_small.specs.Map.{Map}
 use Rattle.starlark_small.proofs.CallerOwn.{own-with_values}

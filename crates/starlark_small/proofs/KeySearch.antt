@@ -3,7 +3,7 @@ use Rattle.starlark_hash.proofs.Common.{common_steps, ◌≡◌, ℕ, suc, ◌+�
 use Rattle.std.proofs.lemmas.List.{nil_from_length}
 use Rattle.starlark_hash.specs.HashValue.{promoted}
 use Rattle.starlark_hash.specs.declared.hash_value.StarlarkHashValue.{StarlarkHashValue}
-use Rattle.starlark_hash.proofs.Promote.{promoted-injective}
+use Rattle.starlark_hash.proofs.Promotion.{promoted-injective}
 use Rattle.starlark_hash.specs.Entries.{Entry, entry_key, is_under, pair_of}
 use Rattle.starlark_hash.specs.Search.{Asks, CanSearch, Searches, keys_under}
 use Rattle.starlark_small.specs.Hashes.{indices_under, numbered, numbered_from}

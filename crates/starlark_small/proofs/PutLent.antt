@@ -1,7 +1,7 @@
 -- A call that puts a new entry at the end of a map and lends it meets its contract, whatever its key is brought as, where its code
 -- does: what it is passed is taken apart before, and what it leaves is put together after. It hands on what the proofs over it cite:
 -- `L.RS` there is `RS` here. Assumes `Logic`.
-use Rattle.starlark_columns.proofs.Walking.{◌≡◌, sym, subst, List, [], ◌∷◌, Ura, Fn, named, Val, vptr, SProp, ent, sep, Lft, Lfts, AllOutlive, ftrue, flft, WpFn, Logic, sem, ◌⊑◌, fact, tables, ‵, raw, ◌⊛◌, ◌$◌, ◌∵◌, !, qed, by, move, keep, split, split3, join, fsplit, fsplit3, Last, left, blank, T, no, rest, RattleType, owns, layout, Laws, param, param_laws, MutBor, MutRef, ShrRef, mut_vals, mut_Tells, plain, types_at, mut_ref_to, heard, tells, spent, drops, leaves, Tuple, Clauses, Ended, closing, Meets, walk_of, Goes-spent_ref, Goes-blank, Good, proved_at, None, IfOk, IfErr, OnErr}
+use Rattle.starlark_columns.proofs.LogicNames.{◌≡◌, sym, subst, List, [], ◌∷◌, Ura, Fn, named, Val, vptr, SProp, ent, sep, Lft, Lfts, AllOutlive, ftrue, flft, WpFn, Logic, sem, ◌⊑◌, fact, tables, ‵, raw, ◌⊛◌, ◌$◌, ◌∵◌, !, qed, by, move, keep, split, split3, join, fsplit, fsplit3, Last, left, blank, T, no, rest, RattleType, owns, layout, Laws, param, param_laws, MutBor, MutRef, ShrRef, mut_vals, mut_Tells, plain, types_at, mut_ref_to, heard, tells, spent, drops, leaves, Tuple, Clauses, Ended, closing, Meets, walk_of, Goes-spent_ref, Goes-blank, Good, proved_at, None, IfOk, IfErr, OnErr}
 use contract.Lifetimes.{Shares}
 use contract.Running.{Running}
 use mir.Syntax.{Callee}

@@ -1,7 +1,7 @@
 -- A `SmallMap` in memory is its list of entries and the rest, and back, at any list of entries that goes with its index. Assumes `Logic`.
-use Rattle.starlark_columns.proofs.Walking.{Ura, full_share, SProp, ent, sep, ex, ‵, raw, some, ◌$◌, ◌∵◌, !, qed, by, use1, use2, pick, show, done, Logic, sem, RattleType, part_at, part_of, lone, plain_out, Plain-in, view_made, Laws, lawfuls, Member, ◌≡◌, ℕ, ◌+◌, List, [], ◌∷◌}
+use Rattle.starlark_columns.proofs.LogicNames.{Ura, full_share, SProp, ent, sep, ex, ‵, raw, some, ◌$◌, ◌∵◌, !, qed, by, use1, use2, pick, show, done, Logic, sem, RattleType, part_at, part_of, lone, plain_out, Plain-in, view_made, Laws, lawfuls, Member, ◌≡◌, ℕ, ◌+◌, List, [], ◌∷◌}
 use Rattle.std.specs.declared.cmp.PartialEq as PartialEq
-use Rattle.starlark_columns.proofs.Steps.{place, Others, first_out, first_in}
+use Rattle.starlark_columns.proofs.ProofSteps.{place, Others, first_out, first_in}
 use Rattle.starlark_small.specs.contracts.index.Index as index
 use Rattle.starlark_vecmap.specs.contracts.vec_map.VecMap as part
 use Rattle.starlark_small.specs.declared.small_map.SmallMap.TheInside.{Inside}

@@ -5,7 +5,7 @@ use Rattle.starlark_small.specs.Along.{IsSound-same}
 use Rattle.starlark_small.specs.Hashes.{Hashes}
 use Rattle.starlark_small.specs.Index.{IsSound}
 use Rattle.starlark_vecmap.specs.EntryList.{with_values}
-use Rattle.starlark_vecmap.proofs.ValuesWritten.{hashed_keys-with_values}
+use Rattle.starlark_vecmap.proofs.WrittenValues.{hashed_keys-with_values}
 
 module _ {K V : Type 0} where
   pub IsSound-with_values : (eq : K → K → Bool) (es ws : List (Entry K V)) (index : Option Hashes) → IsSound eq es index → IsSound eq (with_values es ws) index

@@ -20,7 +20,8 @@ module _ {K V : Type 0} where
     pub capacity : new.capacity ≡ reserved_capacity old 1
     pub indexed : new.indexed ≡ (old.indexed || nat_lt unindexed (length old.entries + 1))
 
-  -- new is old after one new entry was refused
+  -- new is old after one new entry was refused: entries and index stay, no room is lost, and the capacity is the old one or that
+  -- after a reservation for one
   abbrev pub IsRefused : Map K V → Map K V → Type 0
   IsRefused old new = IsRefusedFor 1 old new
 
@@ -34,7 +35,7 @@ module _ {K V : Type 0} (eq : K → K → Bool) where
     pub pushed : found (eq (key_of key)) (hash_of key) old.entries ≡ None → new.entries ≡ old.entries ++ (key, value) ∷ []
     pub total : (measure : V → ℕ) → total_of measure new.entries + weight_of measure (found (eq (key_of key)) (hash_of key) old.entries) ≡ total_of measure old.entries + measure value
 
-  -- an insertion was refused: its key is new, and there was no room. Entries and index are unchanged
+  -- an insertion was refused: its key is new, and there was no room. Entries and index are unchanged; the capacity may have grown
   pub record IsRefusedInsertion (old new : Map K V) (key : Hashed K) : Type 0 where
     pub lacking : found (eq (key_of key)) (hash_of key) old.entries ≡ None
     pub full : old.room ≡ 0

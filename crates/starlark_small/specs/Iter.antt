@@ -38,6 +38,6 @@ module _ {K V : Type 0} (eq : K → K → Bool) (es : List (Entry K V)) where
   abbrev pub ShowsValues : List V → Type 0
   ShowsValues values = (length es < 2 ^ 63) × (length values ≡ length es) × ShowsInOrder (deref {X = V}) × ShowsInReverse (deref {X = V}) × AreFound values
 
-  -- a walk that gives each value of the list away
+  -- an iterator that gives each value of the list away, as these values, which are those that look-ups find
   abbrev pub GivesValues : List V → Type 0
   GivesValues values = (length es < 2 ^ 64) × (length values ≡ length es) × GivesInOrder V × GivesInReverse V × AreFound values

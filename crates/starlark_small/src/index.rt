@@ -19,7 +19,8 @@ use starlark_vecmap::VecMap;
 use std::alloc::{AllocError, Global};
 use std::marker::Model;
 
-/// The greatest length that a list may have without an index; a longer one always has one.
+/// The greatest length that a list may have without an index; a longer one always has one. Why it is 16 is said in
+/// docs/DESIGN.md. Definitions have it as `unindexed`.
 pub const UNINDEXED: usize = 16;
 
 // Least capacity of an index that is made where a list grows: twice the threshold, so that the next few insertions do not make

@@ -61,7 +61,7 @@ impl<K: Eq, V> SmallMap<K, V> {
     }
 
     /// An empty map of this capacity, with room for so many entries, and with an index where so many need one. Where
-    /// memory is refused, nothing is made; capacity 0 asks for none.
+    /// memory is refused, or for more than 3,489,660,928 entries, nothing is made; capacity 0 asks for none.
     #[tactic(auto, using(crate::proofs::CallerOwn::emptied))]
     #[inline(always)]
     pub fn with_capacity(alloc: Global, capacity: usize) -> Result<Self, AllocError>

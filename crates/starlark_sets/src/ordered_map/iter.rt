@@ -64,7 +64,7 @@ impl<K: Eq, V> OrderedMap<K, V> {
 
     /// The values in order, to write them. The map ends with what is left in them; keys, hashes, order, room, capacity
     /// and index stay.
-    #[tactic(auto, using(starlark_vecmap::proofs::ValuesWritten::written))]
+    #[tactic(auto, using(starlark_vecmap::proofs::WrittenValues::written))]
     #[inline]
     pub fn values_mut(&mut self) -> ValuesMut<'_, K, V>
         ensures* writes_back { sem 𝓛 (values_follow K.row V.row K.PartialEq self.entry result.1) }

@@ -5,7 +5,9 @@ ghost use Rattle.starlark_hash.specs.declared.hash_value.StarlarkHashValue.{Star
 ghost use Rattle.starlark_hash.specs.Lookup.{found};
 ghost use Rattle.starlark_small.specs.Collect.{Collects, Extends, IsExtended};
 ghost use Rattle.starlark_small.specs.Lookup.{AreOwn, contains};
-ghost use Rattle.starlark_sets.specs.Collect.{HasEach, InsertsEach, IsSetOf, KeepsOwn, element_entry, own_element};
+ghost use Rattle.starlark_sets.specs.Collect.{HasEach, HasNoMore, InsertsEach, IsSetOf, KeepsOwn, element_entry, own_element};
+ghost use Rattle.starlark_sets.specs.Difference.{TellsDifference};
+ghost use Rattle.starlark_sets.specs.Union.{TellsUnion};
 
 use super::SmallSet;
 use starlark_hash::{Hashed, WithUnit};
@@ -41,6 +43,10 @@ impl<T: Eq + Hash + Drop> SmallSet<T> {
     pub fn from_iter<I: IntoIterator<Item = T>>(alloc: Global, iter: I) -> Result<Self, AllocError>
         requires { IsFiniteIterable I.into_iter_gives I.IntoIter.can_next I.IntoIter.remaining iter }
         ensures made { IfOk result (IsSetOf T.eq T.hash_input I.IntoIter.next_gives I.into_iter_gives I.IntoIter.remaining iter) }
+        ensures most { IfOk result (HasNoMore I.IntoIter.next_gives I.into_iter_gives iter) }
+        // What such elements make a difference or a union have, by which it is known what a set has that collects one.
+        ensures lacking { TellsDifference T.eq T.hash_input }
+        ensures either { TellsUnion T.eq T.hash_input }
         ensures succeeds { ((it : _) → I.into_iter_gives iter it → size (I.IntoIter.remaining it) ≡ 0) → IsOk result }
     {
         Ok(SmallSet {

@@ -28,7 +28,8 @@ impl<T: Eq> SmallSet<T> {
         ensures inserts { OnOk result (Inserts T.eq self.old self.new (own_hashed T.hash_input key) tt) }
         // Elements that are under their own hashes stay so, also where this one is refused.
         ensures own { AreOwn T.hash_input self.old → AreOwn T.hash_input self.new }
-        // Refused: only a new element, only without room. It comes back, and elements and index are unchanged.
+        // Refused: only a new element, only without room. It comes back, and elements and index are unchanged; the capacity
+        // may have grown.
         ensures refused { OnErr result (IsRefusedInsertion T.eq self.old self.new (own_hashed T.hash_input key)) }
         ensures handed_back { IfErr result (λ refused. refused.0 ≡ key) }
         // Done or refused: no room is lost, and with room to spare no memory is asked for.
@@ -56,7 +57,8 @@ impl<T: Eq> SmallSet<T> {
         ensures inserts { OnOk result (Inserts T.eq self.old self.new key tt) }
         // Elements that are under their own hashes stay so, also where this one is refused.
         ensures own { (feeds : T → HashWrites) → hash_of key ≡ own_hash feeds (key_of key) → AreOwn feeds self.old → AreOwn feeds self.new }
-        // Refused: only a new element, only without room. It comes back, and elements and index are unchanged.
+        // Refused: only a new element, only without room. It comes back, and elements and index are unchanged; the capacity
+        // may have grown.
         ensures refused { OnErr result (IsRefusedInsertion T.eq self.old self.new key) }
         ensures handed_back { IfErr result (λ refused. refused.0 ≡ key) }
         // Done or refused: no room is lost, and with room to spare no memory is asked for.
@@ -79,7 +81,8 @@ impl<T: Eq> SmallSet<T> {
         ensures updates { OnOk result (Updates T.eq T.hash_input self.old self.new key (Some tt)) }
         // Elements that are under their own hashes stay so, also where this one is refused.
         ensures own { AreOwn T.hash_input self.old → AreOwn T.hash_input self.new }
-        // Refused: only without room. The element comes back, and elements and index are unchanged.
+        // Refused: only without room. The element comes back, and elements and index are unchanged; the capacity may have
+        // grown.
         ensures refused { OnErr result (IsRefused self.old self.new) }
         ensures full { OnErr result (self.old.room ≡ 0) }
         ensures handed_back { IfErr result (λ refused. refused.0 ≡ key) }
@@ -102,7 +105,8 @@ impl<T: Eq> SmallSet<T> {
         ensures updates { OnOk result (Writes T.eq (T.eq (key_of key)) (hash_of key) self.old.entries self.new.entries (Some tt)) }
         // Elements that are under their own hashes stay so, also where this one is refused.
         ensures own { (feeds : T → HashWrites) → hash_of key ≡ own_hash feeds (key_of key) → AreOwn feeds self.old → AreOwn feeds self.new }
-        // Refused: only without room. The element comes back, and elements and index are unchanged.
+        // Refused: only without room. The element comes back, and elements and index are unchanged; the capacity may have
+        // grown.
         ensures refused { OnErr result (IsRefused self.old self.new) }
         ensures full { OnErr result (self.old.room ≡ 0) }
         ensures handed_back { IfErr result (λ refused. refused.0 ≡ key) }

@@ -43,8 +43,8 @@ impl<T: Eq> SmallSet<T> {
         self.map.shift_remove_hashed(key).is_some()
     }
 
-    /// Removes the element under the query's own hash that the query stands for, and answers it. Those after it move up.
-    /// Capacity and index stay.
+    /// Removes the element under the query's own hash that the query stands for, and answers it. The index of each
+    /// later one falls by one. Capacity and index stay.
     #[inline]
     #[tactic(auto, using(crate::proofs::Callers::lookups))]
     pub fn take<Q: Query<T> + Hash>(&mut self, key: Q) -> Option<T>
@@ -59,7 +59,8 @@ impl<T: Eq> SmallSet<T> {
         Some(element)
     }
 
-    /// Removes the element at an index, and answers it. Those after it move up. Capacity and index stay.
+    /// Removes the element at an index, and answers it. The index of each later one falls by one. Capacity and index
+    /// stay.
     #[tactic(auto, using(crate::proofs::Lookups::removals))]
     pub fn shift_remove_index(&mut self, i: usize) -> Option<T>
         // The element at the index comes back: by index, by look-ups, and how many elements there are.
@@ -74,7 +75,8 @@ impl<T: Eq> SmallSet<T> {
         Some(element)
     }
 
-    /// Removes the element at an index, and answers it under its hash. Those after it move up. Capacity and index stay.
+    /// Removes the element at an index, and answers it under its hash. The index of each later one falls by one.
+    /// Capacity and index stay.
     #[tactic(auto, using(crate::proofs::Lookups::removals))]
     pub fn shift_remove_index_hashed(&mut self, i: usize) -> Option<Hashed<T>>
         // The element at the index comes back: by index, by look-ups, and how many elements there are.

@@ -1,6 +1,6 @@
 //! A `SmallSet` beside another: what one has and the other lacks, and what is in either.
 ghost use Rattle.std.specs.Hash.{HashWrites};
-ghost use Rattle.std.specs.Prelude.{◌≡◌, ◌^◌, ◌<◌, ◌&&◌, ◌||◌, length, not, IsTrue};
+ghost use Rattle.std.specs.Prelude.{◌≡◌, ◌^◌, ◌<◌, ◌≤◌, ◌&&◌, ◌||◌, length, not, IsTrue};
 ghost use Rattle.std.specs.Set.{is_member};
 ghost use Rattle.starlark_hash.specs.Entries.{IsSingle};
 ghost use Rattle.starlark_small.specs.Lookup.{AreOwn, contains};
@@ -19,6 +19,7 @@ impl<T: Eq> SmallSet<T> {
         ensures left { result ≡ record { left = self.now.entries; other = other.now.entries } }
         ensures single { IsSingle T.eq (difference T.eq self.now.entries other.now.entries) }
         ensures members { (feeds : T → HashWrites) → ((x y : T) → IsTrue (T.eq x y) → feeds x ≡ feeds y) → AreOwn feeds self.now → (element : T) → is_member T.eq (difference_rest T.eq result) element ≡ (contains T.eq feeds self.now element && not (contains T.eq feeds other.now element)) }
+        ensures most { length (difference_rest T.eq result) ≤ length self.now.entries }
         ensures fits { length (difference_rest T.eq result) < 2 ^ 64 }
         ensures runs { ShowsDifference T.eq }
     {

@@ -61,6 +61,7 @@ impl<K: Eq, V> SmallMap<K, V> {
 }
 
 impl<K: Eq + fmt::Debug, V: fmt::Debug> fmt::Debug for SmallMap<K, V> {
+    /// Writes the entries in order of insertion, as `{key: value, ..}`. Hashes, capacity and index are not written.
     fn fmt<W: fmt::Write>(&self, f: &mut fmt::Formatter<W>) -> fmt::Result {
         f.debug_map().entries(self.iter()).finish()
     }

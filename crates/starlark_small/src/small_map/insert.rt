@@ -169,7 +169,8 @@ impl<K: Eq, V> SmallMap<K, V> {
         ensures updates { OnOk result (Updates K.eq K.hash_input self.old self.new key (Some value)) }
         // Keys that are under their own hashes stay so, also where this one is refused.
         ensures own { AreOwn K.hash_input self.old → AreOwn K.hash_input self.new }
-        // Refused: only without room. Key and value come back, and entries and index are unchanged.
+        // Refused: only without room. Key and value come back, and entries and index are unchanged; the capacity may have
+        // grown.
         ensures refused { OnErr result (IsRefused self.old self.new) }
         ensures full { OnErr result (self.old.room ≡ 0) }
         ensures handed_back { IfErr result (λ refused. refused.0 ≡ (key, value)) }
@@ -191,7 +192,8 @@ impl<K: Eq, V> SmallMap<K, V> {
         ensures updates { OnOk result (Writes K.eq (K.eq (key_of key)) (hash_of key) self.old.entries self.new.entries (Some value)) }
         // Keys that are under their own hashes stay so, also where this one is refused.
         ensures own { (feeds : K → HashWrites) → hash_of key ≡ own_hash feeds (key_of key) → AreOwn feeds self.old → AreOwn feeds self.new }
-        // Refused: only without room. Key and value come back, and entries and index are unchanged.
+        // Refused: only without room. Key and value come back, and entries and index are unchanged; the capacity may have
+        // grown.
         ensures refused { OnErr result (IsRefused self.old self.new) }
         ensures full { OnErr result (self.old.room ≡ 0) }
         ensures handed_back { IfErr result (λ refused. refused.0 ≡ (key, value)) }

@@ -83,7 +83,7 @@ impl<K: Eq, V> SmallMap<K, V> {
 
     /// The values in order of insertion, to write them. The map ends with what is left in them; keys, hashes, order,
     /// room, capacity and index stay.
-    #[tactic(auto, using(starlark_vecmap::proofs::ValuesWritten::written))]
+    #[tactic(auto, using(starlark_vecmap::proofs::WrittenValues::written))]
     #[inline]
     pub fn values_mut(&mut self) -> ValuesMut<'_, K, V>
         ensures* writes_back { sem 𝓛 (values_follow K.row V.row K.PartialEq self.entry result.1) }
@@ -96,7 +96,7 @@ impl<K: Eq, V> SmallMap<K, V> {
 }
 
 impl<K: Eq + Drop, V: Drop> SmallMap<K, V> {
-    /// The keys by value, in order of insertion.
+    /// The keys by value, in order of insertion. Each value is dropped with its step, the others with the iterator.
     #[tactic(auto, using(crate::proofs::CallerIter::walked))]
     #[inline]
     pub fn into_keys(self) -> IntoKeys<K, V>
@@ -110,7 +110,7 @@ impl<K: Eq + Drop, V: Drop> SmallMap<K, V> {
         entries.into_keys()
     }
 
-    /// The values by value, in order of insertion.
+    /// The values by value, in order of insertion. Each key is dropped with its step, the others with the iterator.
     #[tactic(auto, using(crate::proofs::CallerIter::walked))]
     #[inline]
     pub fn into_values(self) -> IntoValues<K, V>

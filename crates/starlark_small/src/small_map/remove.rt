@@ -46,7 +46,7 @@ impl<K: Eq, V> SmallMap<K, V> {
     }
 
     /// Removes the entry under the query's own hash whose key the query stands for, drops its key and answers its
-    /// value. Those after it move up; without such an entry nothing changes. Capacity and index stay.
+    /// value. The index of each later one falls by one; without such an entry nothing changes. Capacity and index stay.
     #[inline]
     pub fn shift_remove<Q: Query<K> + Hash>(&mut self, key: Q) -> Option<V>
     where
@@ -59,8 +59,8 @@ impl<K: Eq, V> SmallMap<K, V> {
         self.shift_remove_hashed(Hashed::new(key))
     }
 
-    /// Removes the entry under the query's own hash whose key the query stands for, and answers its key and value.
-    /// Those after it move up. Capacity and index stay.
+    /// Removes the entry under the query's own hash whose key the query stands for, and answers its key and value. The
+    /// index of each later one falls by one. Capacity and index stay.
     #[inline]
     pub fn shift_remove_entry<Q: Query<K> + Hash>(&mut self, key: Q) -> Option<(K, V)>
         // The key and the value that were found come back.
@@ -72,7 +72,8 @@ impl<K: Eq, V> SmallMap<K, V> {
         self.shift_remove_hashed_entry(Hashed::new(key))
     }
 
-    /// Removes the entry at an index, and answers its key and value. Those after it move up. Capacity and index stay.
+    /// Removes the entry at an index, and answers its key and value. The index of each later one falls by one. Capacity
+    /// and index stay.
     pub fn shift_remove_index(&mut self, index: usize) -> Option<(K, V)>
         // What was at the index comes back, if there was something: the key has it no more, and there is one entry less.
         ensures taken { result ≡ option_map pair_of (slice_get self.old.entries index) }
@@ -85,7 +86,8 @@ impl<K: Eq, V> SmallMap<K, V> {
         Some((key.into_key(), value))
     }
 
-    /// Removes the entry at an index, and answers it. Those after it move up. Capacity and index stay.
+    /// Removes the entry at an index, and answers it. The index of each later one falls by one. Capacity and index
+    /// stay.
     #[tactic(auto, using(std::proofs::lemmas::Grind::common_steps, std::proofs::lemmas::Option::slice_get_past))]
     pub fn shift_remove_index_hashed(&mut self, index: usize) -> Option<(Hashed<K>, V)>
         // What was at the index comes back, if there was something: the key has it no more, and there is one entry less.
@@ -133,7 +135,7 @@ impl<K: Eq, V> SmallMap<K, V> {
         self.entries.clear();
     }
 
-    // Takes out the entry at an index. Those after it move up.
+    // Takes out the entry at an index. The index of each later one falls by one.
     fn take_at(&mut self, index: usize) -> (Hashed<K>, V)
         requires { index < length self.old.entries }
         ensures taken { slice_get self.old.entries index ≡ Some result }

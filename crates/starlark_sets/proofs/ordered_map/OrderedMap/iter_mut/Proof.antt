@@ -1,5 +1,5 @@
 -- `iter_mut` lends the map inside for good, and hands on what walks that. Assumes `Logic`.
-use Rattle.starlark_columns.proofs.Walking.{◌≡◌, refl, ap, ◌∙◌, ◌<◌, ◌^◌, List, [], ◌∷◌, length, a_type, dcons, dnil, named, inst_fn, Val, vptr, SProp, id⊢, ex_e, snd∗, GName, ftrue, sem, ◌⊑◌, fact, tables, ‵, raw, ◌⊛◌, some, later, ◌$◌, ◌∵◌, !, qed, by, move, keep, drop, use1, use2, split, split3, join, pick, fsplit, fjoin, rewrite, Item, await, stop, addr, and_then, no_more, returns, enter, alloc_all, pass_all, free_all, look_at, get, through, sets, lands_as, follows, follows_then, Is, shows, param, bounded, param_laws, RattleType, owns, MutBor, MutRef, NamedLft, mut_vals, mut_Tells, types_at, named_lft, nothing, heard, peeks, only, calls_at, ensured, lasts, triple_of, Contract, framed, walk_of, proved, map, toks, tells, spent, drops, drops_go, leaves, group}
+use Rattle.starlark_columns.proofs.LogicNames.{◌≡◌, refl, ap, ◌∙◌, ◌<◌, ◌^◌, List, [], ◌∷◌, length, a_type, dcons, dnil, named, inst_fn, Val, vptr, SProp, id⊢, ex_e, snd∗, GName, ftrue, sem, ◌⊑◌, fact, tables, ‵, raw, ◌⊛◌, some, later, ◌$◌, ◌∵◌, !, qed, by, move, keep, drop, use1, use2, split, split3, join, pick, fsplit, fjoin, rewrite, Item, await, stop, addr, and_then, no_more, returns, enter, alloc_all, pass_all, free_all, look_at, get, through, sets, lands_as, follows, follows_then, Is, shows, param, bounded, param_laws, RattleType, owns, MutBor, MutRef, NamedLft, mut_vals, mut_Tells, types_at, named_lft, nothing, heard, peeks, only, calls_at, ensured, lasts, triple_of, Contract, framed, walk_of, proved, map, toks, tells, spent, drops, drops_go, leaves, group}
 use Rattle.starlark_hash.specs.Entries.{pair_of}
 use Rattle.starlark_vec2.proofs.pairs_mut.PairsMut.TheLaws as walk_laws
 use Rattle.starlark_vec2.specs.contracts.pairs_mut.PairsMut as P

@@ -9,6 +9,11 @@ use Rattle.starlark_sets.proofs.small_set.SmallSet.difference.Goals as goal
 pub returns-clause-single : goal.returns-clause-single
 returns-clause-single g c = rw (← c.self.view_is) (IsSingle-difference g.T.PartialEq.eq _ _ c.iter_hashed.ensures.single)
 
+pub returns-clause-most : goal.returns-clause-most
+returns-clause-most g c =
+    let is : c.new.result ≡ record { left = c.args.self.now.entries; other = c.args.other.now.entries } = search rules in
+    rw is (length-difference-le g.T.PartialEq.eq c.args.self.now.entries c.args.other.now.entries)
+
 pub returns-clause-fits : goal.returns-clause-fits
 returns-clause-fits g c =
     omega (arith, length-difference-le g.T.PartialEq.eq c.new.result.left c.new.result.other, ap (λ d. length d.left) c.new.ensures, ap length c.iter_hashed.ensures.entries, c.iter_hashed.ensures.runs.0)

@@ -1,7 +1,8 @@
-use Rattle.starlark_hash.proofs.Common.{sym, subst}
+use Rattle.starlark_hash.proofs.Common.{◌≤◌, length, sym, subst}
 use Rattle.starlark_small.specs.Collect.{Collects}
 use Rattle.starlark_sets.specs.Collect.{own_element}
-use Rattle.starlark_sets.proofs.Collecting.{collects_alone, has_collected}
+use Rattle.starlark_sets.proofs.Collecting.{collected, collects_alone, has_collected, length-collected}
+use Rattle.starlark_sets.proofs.Members.{members-difference, members-union}
 use Rattle.starlark_sets.proofs.small_set.SmallSet.from_iter.Goals as goal
 
 pub returns-clause-made : goal.returns-clause-made
@@ -10,3 +11,20 @@ returns-clause-made g c =
     let collects : Collects g.T.PartialEq.eq (own_element g.T.Hash.hash_input) g.I.IntoIter.Iterator.next_gives g.I.IntoIterator.into_iter_gives g.I.IntoIter.Iterator.remaining c.args.iter new =
     collects_alone c.new.result made c.in_ok-from_iter.ensures.made.map in
     record { found = has_collected g.met.T.Eq.laws g.T.Hash.hash_input g.met.T.Hash.respects_eq new collects; set = collects; own = c.in_ok-from_iter.ensures.made.own }
+
+pub returns-clause-most : goal.returns-clause-most
+returns-clause-most g c =
+    let new = c.in_ok-from_iter.field-0 in
+    collected new (returns-clause-made g c).set (λ xs. length new.entries ≤ length xs) (λ xs is. length-collected g.T.PartialEq.eq (own_element g.T.Hash.hash_input) xs new.entries is)
+
+pub returns-clause-lacking : goal.returns-clause-lacking
+returns-clause-lacking g c = members-difference g.T.PartialEq.eq g.met.T.Eq.laws g.T.Hash.hash_input g.met.T.Hash.respects_eq
+
+pub returns-clause-either : goal.returns-clause-either
+returns-clause-either g c = members-union g.T.PartialEq.eq g.met.T.Eq.laws g.T.Hash.hash_input g.met.T.Hash.respects_eq
+
+pub returns-in_err-from_iter-clause-lacking : goal.returns-in_err-from_iter-clause-lacking
+returns-in_err-from_iter-clause-lacking g c = members-difference g.T.PartialEq.eq g.met.T.Eq.laws g.T.Hash.hash_input g.met.T.Hash.respects_eq
+
+pub returns-in_err-from_iter-clause-either : goal.returns-in_err-from_iter-clause-either
+returns-in_err-from_iter-clause-either g c = members-union g.T.PartialEq.eq g.met.T.Eq.laws g.T.Hash.hash_input g.met.T.Hash.respects_eq

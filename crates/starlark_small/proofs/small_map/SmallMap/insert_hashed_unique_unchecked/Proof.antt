@@ -1,5 +1,5 @@
 -- `insert_hashed_unique_unchecked` meets its contract, at any key and value types: the map is lent to the call that puts the entry at the end and comes back, and is then lent for good to the call that shows it. Assumes `Logic`.
-use Rattle.starlark_columns.proofs.Walking.{◌≡◌, refl, sym, inl, inr, ℕ, ◌<◌, ◌^◌, suc-ne-zero, [], ◌∷◌, length, lit<, Args, a_type, dcons, dnil, named, w64, inst_fn, Val, vint, vcons, vnil, of_list, id⊢, ex_e, snd∗, Lft, GName, Share, ftrue, flft, fres, Env, sem, live, vrt, in_variant, by_variants, ◌⊑◌, ⊑_trans, meet_⊑_right, fact, tables, ‵, raw, ◌⊛◌, some, given, later, at_ret, ◌$◌, ◌∵◌, !, qed, by, move, drop, use1, use2, use3, split, split3, join, pick, learn, fsplit, fjoin, await, rewrite, group, whole, agg, stop, fld, addr, lit, of_opd, and_then, no_more, first, exec, returns, enter, alloc_all, pass_all, free_all, look_at, get, get_in, get_tag, through, sets, sets_last, lands_as, env, RattleType, usize, follows, param, bounded, layout, param_laws, uint_Makes, uint_Tells, Bor, MutBor, MutRef, ShrRef, mut_vals, nothing, owned, heard, tells, Tuple, tuple_laws, calls_at, Lasts, ensured, lasts, triple_of, Contract, Triple, framed, Good, Ok-of, Err-of, and_tt, Result, Ok, Err, None, IfErr, IfOk, OnErr, OnOk, slice_get, Some, option_map, after}
+use Rattle.starlark_columns.proofs.LogicNames.{◌≡◌, refl, sym, inl, inr, ℕ, ◌<◌, ◌^◌, suc-ne-zero, [], ◌∷◌, length, lit<, Args, a_type, dcons, dnil, named, w64, inst_fn, Val, vint, vcons, vnil, of_list, id⊢, ex_e, snd∗, Lft, GName, Share, ftrue, flft, fres, Env, sem, live, vrt, in_variant, by_variants, ◌⊑◌, ⊑_trans, meet_⊑_right, fact, tables, ‵, raw, ◌⊛◌, some, given, later, at_ret, ◌$◌, ◌∵◌, !, qed, by, move, drop, use1, use2, use3, split, split3, join, pick, learn, fsplit, fjoin, await, rewrite, group, whole, agg, stop, fld, addr, lit, of_opd, and_then, no_more, first, exec, returns, enter, alloc_all, pass_all, free_all, look_at, get, get_in, get_tag, through, sets, sets_last, lands_as, env, RattleType, usize, follows, param, bounded, layout, param_laws, uint_Makes, uint_Tells, Bor, MutBor, MutRef, ShrRef, mut_vals, nothing, owned, heard, tells, Tuple, tuple_laws, calls_at, Lasts, ensured, lasts, triple_of, Contract, Triple, framed, Good, Ok-of, Err-of, and_tt, Result, Ok, Err, None, IfErr, IfOk, OnErr, OnOk, slice_get, Some, option_map, after}
 use Rattle.starlark_hash.specs.Entries.{pair_of}
 use Rattle.starlark_hash.specs.HashValue.{hash_of, key_of}
 use Rattle.std.specs.Hash.{HashWrites}
@@ -11,7 +11,7 @@ use Rattle.starlark_small.specs.Map.{Map}
 use Rattle.starlark_small.specs.contracts.small_map.SmallMap.push as p
 use Rattle.starlark_small.specs.contracts.small_map.SmallMap.entry_mut as e
 use Rattle.starlark_small.specs.contracts.small_map.SmallMap.insert_hashed_unique_unchecked as contract
-use Rattle.starlark_columns.proofs.Steps.{Kept, within, lent_within, back_again}
+use Rattle.starlark_columns.proofs.ProofSteps.{Kept, within, lent_within, back_again}
 use Rattle.starlark_table.proofs.LentInResult.{given_up, so_rests, so_follows, in_ok_told, in_err, entry_val, entry_told, which}
 use Rattle.starlark_small.proofs.Inserted.{with_value_at, within_inserted, inserted_written, inserted_shown}
 use Rattle.starlark_small.proofs.PutLent as L

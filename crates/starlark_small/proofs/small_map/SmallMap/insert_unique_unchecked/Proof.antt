@@ -1,5 +1,5 @@
 -- `insert_unique_unchecked` meets its contract, at any key and value types: the key is put under its own hash, the next call inserts it and lends it with its value, and the last takes a refused key out of its hash. Assumes `Logic`.
-use Rattle.starlark_columns.proofs.Walking.{◌≡◌, refl, ap, subst, [], ◌∷◌, a_type, dcons, dnil, named, tcons, tnil, ty_ptr, ty_struct, inst_fn, ent, emp, id⊢, ex_e, snd∗, Fml, Lft, ftrue, flft, sem, ⊑_meet, ⊑_refl, ⊑_trans, ◌⊑◌, fact, tables, ‵, raw, ◌⊛◌, some, later, ◌$◌, ◌∵◌, !, qed, by, move, use0, use1, split, split3, join, pick, fjoin, await, rewrite, group, stop, addr, of_opd, and_then, no_more, returns, enter, alloc_all, pass_all, free_all, look_at, get, through, sets, lands_as, yes, RattleType, lives_all, Is, shows, arg, param, bounded, layouts, Laws, arg_laws, param_laws, in_all, Bor, MutBor, MutRef, ShrRef, mut_vals, nothing, heard, tells, peeks, Tuple, tuple_laws, calls_at, ensured, lasts, triple_of, Contract, Triple, framed, result_laws, Result, Ok, Err, None, IfOk, IfErr, OnErr}
+use Rattle.starlark_columns.proofs.LogicNames.{◌≡◌, refl, ap, subst, [], ◌∷◌, a_type, dcons, dnil, named, tcons, tnil, ty_ptr, ty_struct, inst_fn, ent, emp, id⊢, ex_e, snd∗, Fml, Lft, ftrue, flft, sem, ⊑_meet, ⊑_refl, ⊑_trans, ◌⊑◌, fact, tables, ‵, raw, ◌⊛◌, some, later, ◌$◌, ◌∵◌, !, qed, by, move, use0, use1, split, split3, join, pick, fjoin, await, rewrite, group, stop, addr, of_opd, and_then, no_more, returns, enter, alloc_all, pass_all, free_all, look_at, get, through, sets, lands_as, yes, RattleType, lives_all, Is, shows, arg, param, bounded, layouts, Laws, arg_laws, param_laws, in_all, Bor, MutBor, MutRef, ShrRef, mut_vals, nothing, heard, tells, peeks, Tuple, tuple_laws, calls_at, ensured, lasts, triple_of, Contract, Triple, framed, result_laws, Result, Ok, Err, None, IfOk, IfErr, OnErr}
 use Rattle.starlark_hash.proofs.hashed.Hashed.new as hash
 use Rattle.starlark_hash.specs.contracts.hashed.Hashed.new as n
 use Rattle.starlark_small.specs.Map.{Map, own_hashed}
@@ -7,7 +7,7 @@ use Rattle.starlark_small.specs.Lend.{unhashed}
 use Rattle.starlark_small.specs.contracts.small_map.SmallMap.insert_hashed_unique_unchecked as p
 use Rattle.starlark_small.specs.contracts.small_map.insert.without_hash as w
 use Rattle.starlark_small.specs.contracts.small_map.SmallMap.insert_unique_unchecked as contract
-use Rattle.starlark_columns.proofs.Steps.{mut_laws, shr_laws, good_value}
+use Rattle.starlark_columns.proofs.ProofSteps.{mut_laws, shr_laws, good_value}
 use Rattle.std.specs.declared.cmp.PartialEq as PartialEq
 use Rattle.starlark_small.proofs.PutLent as L
 use Rattle.starlark_small.proofs.PutLent.{Hashed, NoRoom, ends, found, hash_of, key_of, lends_inserted, meets}

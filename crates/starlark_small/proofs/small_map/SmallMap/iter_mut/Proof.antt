@@ -1,15 +1,15 @@
 -- `iter_mut` walks the list of entries; the map, open over the call, is closed by what it follows. Assumes `Logic`.
-use Rattle.starlark_columns.proofs.Walking.{◌≡◌, refl, sym, ap, ◌∙◌, ◌+◌, List, [], ◌∷◌, full_share, a_type, dcons, dnil, named, inst_fn, Val, id⊢, ex_e, snd∗, GName, ftrue, fsep, flft, fauth, sem, ◌⊑◌, fact, tables, ages, bor_new_deep, open_ref, name_new, ‵, raw, ◌⊛◌, some, later, ◌$◌, ◌∵◌, !, qed, by, move, keep, drop, use1, use2, split, split3, join, pick, fsplit, fsplit3, fjoin, fjoin3, fpack, feq_i, rewrite, await, group, stop, fld, addr, and_then, no_more, returns, enter, alloc_all, pass_all, free_all, look_at, get, through, sets, lands_as, follows, RattleType, owns, mem, param, bounded, layouts, MutBor, NamedLft, mut_vals, mut_Tells, types_at, named_lft, nothing, heard, tells, spent, drops, drops_go, leaves, only, calls_at, ensured, lasts, triple_of, Contract, Triple, walk_of, ◌<◌, ◌^◌, length, map, proved, framed, Is, shows, part_at, param_laws, peeks}
+use Rattle.starlark_columns.proofs.LogicNames.{◌≡◌, refl, sym, ap, ◌∙◌, ◌+◌, List, [], ◌∷◌, full_share, a_type, dcons, dnil, named, inst_fn, Val, id⊢, ex_e, snd∗, GName, ftrue, fsep, flft, fauth, sem, ◌⊑◌, fact, tables, ages, bor_new_deep, open_ref, name_new, ‵, raw, ◌⊛◌, some, later, ◌$◌, ◌∵◌, !, qed, by, move, keep, drop, use1, use2, split, split3, join, pick, fsplit, fsplit3, fjoin, fjoin3, fpack, feq_i, rewrite, await, group, stop, fld, addr, and_then, no_more, returns, enter, alloc_all, pass_all, free_all, look_at, get, through, sets, lands_as, follows, RattleType, owns, mem, param, bounded, layouts, MutBor, NamedLft, mut_vals, mut_Tells, types_at, named_lft, nothing, heard, tells, spent, drops, drops_go, leaves, only, calls_at, ensured, lasts, triple_of, Contract, Triple, walk_of, ◌<◌, ◌^◌, length, map, proved, framed, Is, shows, part_at, param_laws, peeks}
 use base.Share
 use Rattle.starlark_hash.specs.Entries.{pair_of}
-use Rattle.starlark_columns.proofs.NamedClose.{closes_named}
+use Rattle.starlark_columns.proofs.NamedLoan.{closes_named}
 use Rattle.starlark_columns.proofs.LoneValue.{lone_value}
-use Rattle.starlark_vec2.proofs.WalkRenamed.{renamed}
+use Rattle.starlark_vec2.proofs.RenamedLoan.{renamed}
 use Rattle.starlark_vec2.proofs.pairs_mut.PairsMut.TheLaws as P-laws
 use Rattle.starlark_vec2.specs.contracts.pairs_mut.PairsMut as P-type
 use Rattle.starlark_vecmap.specs.contracts.vec_map.VecMap.iter_mut as g
 use Rattle.starlark_vecmap.proofs.vec_map.VecMap.iter_mut as walked
-use Rattle.starlark_vecmap.proofs.ValuesWritten.{with_values-again, length-with_values}
+use Rattle.starlark_vecmap.proofs.WrittenValues.{with_values-again, length-with_values}
 use Rattle.starlark_vecmap.specs.EntryList.{EntryList, with_entries, with_values}
 use Rattle.starlark_small.specs.Lend.{KeepsAllButValues}
 use Rattle.starlark_small.specs.Map.{Map}
