@@ -15,7 +15,7 @@ module _ {K V : Type 0} (eq : K → K → Bool) (k : K) (v : V) where
   insert_entry-first (e ∷ es) (suc i) h =
       ap (λ b. if b then (e.0, v) ∷ es else e ∷ insert_entry eq es k v) h.0 ∙ ap (λ l. e ∷ l) (insert_entry-first es i h.1)
 
-  insert_entry-absent : (es : List (K × V)) → IsAbsent (eq k) es → insert_entry eq es k v ≡ es ++ (k, v) ∷ []
+  pub insert_entry-absent : (es : List (K × V)) → IsAbsent (eq k) es → insert_entry eq es k v ≡ es ++ (k, v) ∷ []
   insert_entry-absent [] h = refl
   insert_entry-absent (e ∷ es) h =
       ap (λ b. if b then (e.0, v) ∷ es else e ∷ insert_entry eq es k v) h.0 ∙ ap (λ l. e ∷ l) (insert_entry-absent es h.1)

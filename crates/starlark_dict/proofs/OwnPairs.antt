@@ -6,7 +6,7 @@ use Rattle.std.proofs.lemmas.Map.Keys.{IsDistinct-from_apart}
 use Rattle.starlark_hash.specs.declared.hash_value.StarlarkHashValue.{StarlarkHashValue}
 use Rattle.starlark_hash.specs.declared.hashed.Hashed.{Hashed}
 use Rattle.starlark_hash.specs.Hasher.{hash_of_writes, own_hash}
-use Rattle.starlark_hash.specs.HashValue.{key_of}
+use Rattle.starlark_hash.specs.HashValue.{hash_of, key_of}
 use Rattle.starlark_hash.specs.Entries.{Entry, entry_at, entry_hash, entry_key, entry_value, IsSingle, pair_of, position_of, set_value_at, stands_under, value_at, with_value, without}
 use Rattle.starlark_hash.specs.Insert as list
 use Rattle.starlark_hash.specs.Lookup.{found, found_key}
@@ -115,25 +115,25 @@ module _ {K V : Type 0} (eq : K → K → Bool) (feeds : K → HashWrites) (alik
       ap (λ o. map pair_of (option_map_or (λ i. set_value_at es i value) o (es ++ (own_hashed feeds key, value) ∷ []))) (position_own feeds (eq key) (own_hash feeds key) (same_hash eq feeds alike key) es own)
       ∙ put_in (own_hashed feeds key) value es
 
-module _ {Q K V : Type 0} (stands : Q → K → Bool) (query_feeds : Q → HashWrites) (feeds : K → HashWrites) (alike : (q : Q) (k : K) → IsTrue (stands q k) → query_feeds q ≡ feeds k) (query : Q) (es : List (Entry K V)) where
-  agreeing : (k : K) → stands query k ≡ true → own_hash feeds k ≡ own_hash query_feeds query
-  agreeing k does = ap hash_of_writes (sym (alike query k does))
+module _ {Q K V : Type 0} (stands : Q → K → Bool) (query_feeds : Q → HashWrites) (feeds : K → HashWrites) (alike : (q : Q) (k : K) → IsTrue (stands q k) → query_feeds q ≡ feeds k) (query : Hashed Q) (is : hash_of query ≡ own_hash query_feeds (key_of query)) (es : List (Entry K V)) where
+  agreeing : (k : K) → stands (key_of query) k ≡ true → own_hash feeds k ≡ hash_of query
+  agreeing k does = ap hash_of_writes (sym (alike (key_of query) k does)) ∙ sym is
 
-  -- the same by a query that feeds what its keys feed
-  pub found-query : AreOwnEntries feeds es → found (stands query) (own_hash query_feeds query) es ≡ lookup (stands query) (map pair_of es)
-  found-query own = found-own feeds (stands query) (own_hash query_feeds query) agreeing es own
+  -- the same by a query under its own hash that feeds what its keys feed
+  pub found-query : AreOwnEntries feeds es → found (stands (key_of query)) (hash_of query) es ≡ lookup (stands (key_of query)) (map pair_of es)
+  found-query own = found-own feeds (stands (key_of query)) (hash_of query) agreeing es own
 
-  pub found_key-query : AreOwnEntries feeds es → found_key (stands query) (own_hash query_feeds query) es ≡ lookup_key (stands query) (map pair_of es)
-  found_key-query own = found_key-own feeds (stands query) (own_hash query_feeds query) agreeing es own
+  pub found_key-query : AreOwnEntries feeds es → found_key (stands (key_of query)) (hash_of query) es ≡ lookup_key (stands (key_of query)) (map pair_of es)
+  found_key-query own = found_key-own feeds (stands (key_of query)) (hash_of query) agreeing es own
 
-  pub position-query : AreOwnEntries feeds es → position_of (own_hash query_feeds query) (stands query) es ≡ position (stands query) (keys_of (map pair_of es))
-  position-query own = position-own feeds (stands query) (own_hash query_feeds query) agreeing es own
+  pub position-query : AreOwnEntries feeds es → position_of (hash_of query) (stands (key_of query)) es ≡ position (stands (key_of query)) (keys_of (map pair_of es))
+  position-query own = position-own feeds (stands (key_of query)) (hash_of query) agreeing es own
 
-  pub removed-query : AreOwnEntries feeds es → map pair_of (without es (position_of (own_hash query_feeds query) (stands query) es)) ≡ remove_entry (stands query) (map pair_of es)
-  removed-query own = pairs-removed feeds (stands query) (own_hash query_feeds query) agreeing es own
+  pub removed-query : AreOwnEntries feeds es → map pair_of (without es (position_of (hash_of query) (stands (key_of query)) es)) ≡ remove_entry (stands (key_of query)) (map pair_of es)
+  removed-query own = pairs-removed feeds (stands (key_of query)) (hash_of query) agreeing es own
 
-  pub written-query : (w : V) → AreOwnEntries feeds es → map pair_of (with_value es (position_of (own_hash query_feeds query) (stands query) es) w) ≡ set_value (stands query) (map pair_of es) w
-  written-query w own = pairs-written feeds (stands query) (own_hash query_feeds query) agreeing es w own
+  pub written-query : (w : V) → AreOwnEntries feeds es → map pair_of (with_value es (position_of (hash_of query) (stands (key_of query)) es) w) ≡ set_value (stands (key_of query)) (map pair_of es) w
+  written-query w own = pairs-written feeds (stands (key_of query)) (hash_of query) agreeing es w own
 
 module _ {K V : Type 0} where
   -- keys stay under their own hashes, whatever value is written

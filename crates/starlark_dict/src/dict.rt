@@ -1,12 +1,20 @@
 //! The map. It alone sees the map inside.
-ghost use Rattle.std.specs.Prelude.{◌≡◌, ◌≤◌, ◌<◌, ◌==◌, IfOk, IsOk, OnOk, OnErr};
+ghost use Rattle.std.specs.Prelude.{◌≡◌, ◌≤◌, ◌<◌, ◌==◌, false, nat_lt, IfOk, IsOk, OnOk, OnErr};
+ghost use Rattle.starlark_small.specs.Index.{unindexed};
 ghost use Rattle.starlark_dict.specs.Dict.{dict_len, memory, room, IsEmpty, IsUnchanged, IsUnique, KeepsRoom, StaysOrGrows};
 
+mod clone;
+mod collect;
+mod compare;
 mod convert;
 mod get;
 mod get_mut;
 mod insert;
+mod iter;
+mod iter_mut;
 mod remove;
+mod retain;
+mod sort;
 
 use starlark_small::SmallMap;
 use std::alloc::{AllocError, Global};
@@ -40,17 +48,21 @@ impl<K: Eq + Hash, V> Dict<K, V> {
     pub fn new(alloc: Global) -> Self
         ensures empty { IsEmpty result }
         ensures room { room result ≡ 0 }
+        ensures capacity { (memory result).capacity ≡ 0 }
+        ensures indexed { (memory result).indexed ≡ false }
     {
         Dict {
             map: SmallMap::new(alloc),
         }
     }
 
-    /// An empty map with room for so many entries. Where memory is refused, nothing is made; capacity 0 asks for none.
+    /// An empty dictionary of this capacity, with room for so many entries, and with a hash index where so many need one.
+    /// Where memory is refused, or for more than 3,489,660,928 entries, nothing is made; capacity 0 asks for none.
     pub fn with_capacity(alloc: Global, capacity: usize) -> Result<Self, AllocError>
         ensures empty { IfOk result IsEmpty }
         ensures room { IfOk result (λ d. capacity ≤ room d) }
         ensures capacity { IfOk result (λ d. (memory d).capacity ≡ capacity) }
+        ensures indexed { IfOk result (λ d. (memory d).indexed ≡ nat_lt unindexed capacity) }
         ensures succeeds { capacity ≡ 0 → IsOk result }
     {
         Ok(Dict {
@@ -64,8 +76,9 @@ impl<K: Eq + Hash, V> Dict<K, V> {
         ensures len { result ≡ dict_len self.now }
         ensures unique { IsUnique K.eq self.now }
     {
-        let _entries = self.map.iter_hashed();
-        self.map.len()
+        let count = self.map.len();
+        prove!(self.map.iter_hashed().len() == count);
+        count
     }
 
     /// Whether there are no entries.

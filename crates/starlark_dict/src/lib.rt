@@ -2,5 +2,8 @@
 #![tactic(auto)]
 
 pub mod dict;
+pub mod dict_set;
+pub mod macros;
 
 pub use dict::Dict;
+pub use dict_set::{DictSet, Difference, Union};

@@ -28,7 +28,7 @@ impl<K: Eq + Hash + Drop, V> Dict<K, V> {
         ensures unique { IsUnique K.eq self.new }
     {
         let old = self.map.insert(key, value);
-        let _entries = self.map.iter_hashed();
+        prove!(self.map.iter_hashed().len() == self.map.len());
         old
     }
 }

@@ -2,13 +2,15 @@
 ghost use Rattle.std.specs.Prelude.{◌≡◌, ◌+◌, ◌-◌, is_some, if◌then◌else◌, None, remove, slice_get};
 ghost use Rattle.std.specs.Option.{option_map};
 ghost use Rattle.starlark_dict.specs.Dict.{dict_len, get_by, get_key_by, remove_entry, IsEmpty, KeepsMemory, UpdatesBy};
+ghost use Rattle.starlark_hash.specs.HashValue.{hash_of, key_of};
+ghost use Rattle.starlark_hash.specs.Hasher.{own_hash};
 
 use super::Dict;
-use starlark_hash::HashQuery;
+use starlark_hash::{HashQuery, Hashed};
 use std::hash::Hash;
 
 impl<K: Eq + Hash, V> Dict<K, V> {
-    /// Removes the key that the query stands for, and returns its value. Those after it move up.
+    /// Removes the key that the query stands for, and returns its value. The index of each later one falls by one.
     #[inline]
     pub fn shift_remove<Q: HashQuery<K>>(&mut self, key: Q) -> Option<V>
     where
@@ -19,11 +21,27 @@ impl<K: Eq + Hash, V> Dict<K, V> {
         ensures len { dict_len self.new + (if is_some result then 1 else 0) ≡ dict_len self.old }
         ensures memory { KeepsMemory self.old self.new }
     {
-        let _entries = self.map.iter_hashed();
-        self.map.shift_remove(key)
+        self.shift_remove_hashed(Hashed::new(key))
     }
 
-    /// Removes the key that the query stands for, and returns the stored key and its value. Those after it move up.
+    /// `shift_remove` by a hash that was computed before, and is the query's own.
+    #[inline]
+    pub fn shift_remove_hashed<Q: HashQuery<K>>(&mut self, key: Hashed<Q>) -> Option<V>
+    where
+        K: Drop,
+        requires { hash_of key ≡ own_hash Q.hash_input (key_of key) }
+        ensures value { result ≡ get_by (Q.stands_for (key_of key)) self.old }
+        ensures updates { UpdatesBy K.eq (Q.stands_for (key_of key)) self.old self.new None }
+        ensures entries { self.new.entries ≡ remove_entry (Q.stands_for (key_of key)) self.old.entries }
+        ensures len { dict_len self.new + (if is_some result then 1 else 0) ≡ dict_len self.old }
+        ensures memory { KeepsMemory self.old self.new }
+    {
+        let (_, value) = self.shift_remove_hashed_entry(key)?;
+        Some(value)
+    }
+
+    /// Removes the key that the query stands for, and returns the stored key and its value. The index of each later one
+    /// falls by one.
     #[inline]
     pub fn shift_remove_entry<Q: HashQuery<K>>(&mut self, key: Q) -> Option<(K, V)>
         ensures key { option_map (λ p. p.0) result ≡ get_key_by (Q.stands_for key) self.old }
@@ -33,8 +51,22 @@ impl<K: Eq + Hash, V> Dict<K, V> {
         ensures len { dict_len self.new + (if is_some result then 1 else 0) ≡ dict_len self.old }
         ensures memory { KeepsMemory self.old self.new }
     {
-        let _entries = self.map.iter_hashed();
-        self.map.shift_remove_entry(key)
+        self.shift_remove_hashed_entry(Hashed::new(key))
+    }
+
+    /// `shift_remove_entry` by a hash that was computed before, and is the query's own.
+    #[inline]
+    pub fn shift_remove_hashed_entry<Q: HashQuery<K>>(&mut self, key: Hashed<Q>) -> Option<(K, V)>
+        requires { hash_of key ≡ own_hash Q.hash_input (key_of key) }
+        ensures key { option_map (λ p. p.0) result ≡ get_key_by (Q.stands_for (key_of key)) self.old }
+        ensures value { option_map (λ p. p.1) result ≡ get_by (Q.stands_for (key_of key)) self.old }
+        ensures updates { UpdatesBy K.eq (Q.stands_for (key_of key)) self.old self.new None }
+        ensures entries { self.new.entries ≡ remove_entry (Q.stands_for (key_of key)) self.old.entries }
+        ensures len { dict_len self.new + (if is_some result then 1 else 0) ≡ dict_len self.old }
+        ensures memory { KeepsMemory self.old self.new }
+    {
+        prove!(self.map.iter_hashed().len() == self.map.len());
+        self.map.shift_remove_hashed_entry(key)
     }
 
     /// Removes the last entry, and returns its key and value.

@@ -28,5 +28,5 @@ returns g c =
       succeeds = full-room eq feeds old new key r e.refused;
       room = room-kept old new e.memory.room;
       memory = leaves-memory eq old new _ e.memory;
-      unique = unique-own eq feeds alike new.entries c.iter_hashed-entries.ensures.single (e.own own);
+      unique = unique-own eq feeds alike new.entries c.iter_hashed.ensures.single (e.own own);
     })

@@ -6,4 +6,4 @@ pub returns : goal.returns
 returns g c =
     let es = c.self.inside.map.entries in
     rw (← c.self.view_is)
-    (record { len = c.len.ensures.len ∙ sym (length-pairs es); unique = unique-own g.K.PartialEq.eq g.K.Hash.hash_input g.met.K.Hash.respects_eq es c.iter_hashed-entries.ensures.single c.self.invariant })
+    (record { len = c.len-count.ensures.len ∙ sym (length-pairs es); unique = unique-own g.K.PartialEq.eq g.K.Hash.hash_input g.met.K.Hash.respects_eq es c.iter_hashed.ensures.single c.self.invariant })

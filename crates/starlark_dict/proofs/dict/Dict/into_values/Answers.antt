@@ -1,0 +1,18 @@
+use Rattle.starlark_hash.proofs.Common.{◌∙◌, sym}
+use Rattle.starlark_dict.proofs.OwnPairs.{values-pairs, length-pairs, unique-own}
+use Rattle.starlark_dict.proofs.dict.Dict.into_values.Goals as goal
+
+pub returns : goal.returns
+returns g c =
+    let es = c.self.inside.map.entries in
+    let e = c.into_values.ensures in
+    let seen = c.iter_hashed.ensures in
+    rw (← c.self.view_is)
+    (record {
+      rest = e.values ∙ sym (values-pairs es);
+      len = e.runs.1 ∙ sym (length-pairs es);
+      runs = e.runs.2;
+      runs_back = e.runs.3;
+      unique = unique-own g.K.PartialEq.eq g.K.Hash.hash_input g.met.K.Hash.respects_eq es seen.single c.self.invariant;
+      fits = rw (length-pairs es) seen.runs.0;
+    })
