@@ -2,3 +2,4 @@ pub mod Walks
 pub mod Steps
 mod LookedUp
 mod OrderedLent
+mod Copied

@@ -2,7 +2,7 @@
 use Rattle.core.specs.contracts.option.Option as OP
 use Rattle.core.specs.contracts.result.Result as RS
 use Rattle.starlark_callers.proofs.Walks.{◌≡◌, refl, ap, ◌∙◌, Bool, true, false, ◌&&◌, List, [], ◌∷◌, ◌++◌, nameless, called, T, Ura, named, Val, vstruct, vcons, vnil, of_list, SProp, ent, sep, ex, guard, Lft, GName, fres, Logic, sem, live, followed₂, ‵, ◌$◌, ◌∵◌, !, qed, move, keep, drop, use2, join, fsplit, fsplit3, fpick, feq_l, show, check, rewrite, done, RattleType, Is, shows, follows_both, follows_both_if, mem, layout, Laws, Bor, MutBor, MutRef, ShrRef, mut_vals, mut_Tells, shr_Tells, peeks, only, tuple_laws, Good, Some, Ok, lone_value, Entry, entry_val}
-pub use Rattle.starlark_columns.proofs.Steps.{mut_laws, good_value, within, Kept, Lent, lent_within, back_again}
+pub use Rattle.starlark_columns.proofs.ProofSteps.{mut_laws, good_value, within, Kept, Lent, lent_within, back_again}
 use denote.Follow.{both_by, both_if_by}
 use Rattle.starlark_vec2.proofs.LentInOption.{PairOf}
 

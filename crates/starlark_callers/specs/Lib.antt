@@ -1,3 +1,4 @@
 pub mod Lend
 pub mod Pages
 pub mod Words
+pub mod Values

@@ -155,6 +155,41 @@ pub fn either<'a, T: Eq + Hash>(set: &'a SmallSet<T>, other: &'a SmallSet<T>) ->
     set.union(other)
 }
 
+/// A set of what one set has and the other lacks, by reference: it is no longer than the one.
+pub fn lacking_shown<'a, T: Eq + Hash>(
+    alloc: Global,
+    set: &'a SmallSet<T>,
+    other: &'a SmallSet<T>,
+) -> Result<SmallSet<&'a T>, AllocError>
+    ensures { IfOk result (λ made. length made.entries ≤ length set.now.entries) }
+{
+    SmallSet::from_iter(alloc, set.difference(other))
+}
+
+/// A set of the numbers that one set has and the other lacks.
+pub fn lacking_numbers(
+    alloc: Global,
+    set: &SmallSet<u32>,
+    other: &SmallSet<u32>,
+) -> Result<SmallSet<u32>, AllocError>
+    ensures each { AreOwn fed.u32 set.now → IfOk result (λ made. (n : ℕ) → contains nat_eq fed.u32 made n ≡ (contains nat_eq fed.u32 set.now n && not (contains nat_eq fed.u32 other.now n))) }
+    ensures most { IfOk result (λ made. length made.entries ≤ length set.now.entries) }
+{
+    SmallSet::from_iter(alloc, set.difference(other).copied())
+}
+
+/// A set of the numbers that either set has.
+pub fn either_number(
+    alloc: Global,
+    set: &SmallSet<u32>,
+    other: &SmallSet<u32>,
+) -> Result<SmallSet<u32>, AllocError>
+    ensures each { AreOwn fed.u32 set.now → AreOwn fed.u32 other.now → IfOk result (λ made. (n : ℕ) → contains nat_eq fed.u32 made n ≡ (contains nat_eq fed.u32 set.now n || contains nat_eq fed.u32 other.now n)) }
+    ensures most { IfOk result (λ made. length made.entries ≤ length set.now.entries + length other.now.entries) }
+{
+    SmallSet::from_iter(alloc, set.union(other).copied())
+}
+
 /// The elements that either set has, by reference, in ascending order.
 pub fn either_sorted<'a, T: Ord + Hash>(
     set: &'a SortedSet<T>,

@@ -1,6 +1,7 @@
 //! Visits, scores, words, a build graph, a cache, an interner and scopes: each of their calls succeeds where memory is there.
 
 use crate::given::gives;
+use starlark_dict::Dict;
 use starlark_map::ordered_set::OrderedSet;
 use starlark_map::small_map::SmallMap;
 use starlark_map::unordered_map::UnorderedMap;
@@ -9,6 +10,7 @@ use starlark_uses::cache::Cache;
 use starlark_uses::interner::Interner;
 use starlark_uses::scopes::Scopes;
 use starlark_uses::scores::{note, note_any, note_name, note_unordered};
+use starlark_uses::value::Value;
 use starlark_uses::visits::{Visits, put, record_first_visit, record_named, record_visit};
 use starlark_uses::words::{count_of, tally_of};
 use std::alloc::{AllocError, Global};
@@ -131,4 +133,21 @@ fn bound(alloc: Global) -> Result<(Option<i64>, usize), AllocError> {
 #[test]
 fn binds_names(rt: HostRuntime) {
     gives(&rt, bound(rt.alloc()), bound(rt.alloc()), (Some(2), 1));
+}
+
+// A dictionary with two keys, of which one is set twice, in a copy from which the other was deleted: how many values the
+// dictionary is made of, and its copy.
+fn keyed(alloc: Global) -> Result<(u64, u64), AllocError> {
+    let mut value = Value::Dict(Dict::new(alloc));
+    value.set_key(String::from_str(alloc, "width")?, Value::Int(80))?;
+    value.set_key(String::from_str(alloc, "depth")?, Value::Int(3))?;
+    value.set_key(String::from_str(alloc, "width")?, Value::Int(40))?;
+    let mut copy = value.copy(alloc)?;
+    copy.delete_key("depth");
+    Ok((value.count(), copy.count()))
+}
+
+#[test]
+fn sets_and_copies_keys(rt: HostRuntime) {
+    gives(&rt, keyed(rt.alloc()), keyed(rt.alloc()), (3, 2));
 }

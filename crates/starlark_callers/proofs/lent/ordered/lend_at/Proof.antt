@@ -5,7 +5,7 @@ use Rattle.std.specs.declared.cmp.Eq as Eq
 use Rattle.std.specs.declared.cmp.PartialEq as PartialEq
 use Rattle.std.specs.declared.hash.Hash as Hash
 use Rattle.starlark_callers.proofs.Walks.{◌≡◌, refl, sym, subst, List, [], ◌∷◌, Ura, Fn, Args, Dict, a_type, dcons, dnil, named, inst_fn, Val, vptr, SProp, ent, emp, id⊢, ex_e, snd∗, Lft, Share, ftrue, flft, Memory, Routine, Calls, Loops, WpFn, Logic, sem, ◌⊑◌, Fun, fact, fact_i, tables, FmC, ‵, raw, ◌⊛◌, some, later, ◌$◌, ◌∵◌, !, qed, move, keep, drop, use0, use1, use2, split, split3, join, pick, fsplit, fsplit3, fjoin, suffices, frame, await, done, stop, addr, of_opd, and_then, no_more, returns, enter, alloc_all, pass_all, free_all, look_at, get, through, sets, lands_as, no, RattleType, owns, Is, shows, param, bounded, layout, Laws, param_laws, MutBor, MutRef, mut_vals, mut_Tells, plain, types_at, mut_ref_to, nothing, heard, peeks, Tuple, tuple_laws, calls_at, Clauses, Ended, ensured, lasts, triple_of, Contract, Triple, framed, Stays, stay_dropped, walk_of, ends_at, Goes-spent_ref, Goes-blank, Good, proved_at, None, Result, IfOk, IfErr, OnOk, OnErr, Hashed, NoRoom, lone_value}
-use Rattle.starlark_columns.proofs.Walking.{result_laws, unwrap_or, named_lft, IsOk, IsErr, name_if_ok}
+use Rattle.starlark_columns.proofs.LogicNames.{result_laws, unwrap_or, named_lft, IsOk, IsErr, name_if_ok}
 use Rattle.starlark_hash.proofs.hashed.Hashed.TheLaws as hashed_laws
 use Rattle.starlark_hash.proofs.no_room.NoRoom.TheLaws as room_laws
 use Rattle.starlark_hash.specs.contracts.hashed.Hashed as H

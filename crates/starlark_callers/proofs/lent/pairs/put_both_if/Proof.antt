@@ -10,7 +10,7 @@ use Rattle.starlark_vec2.specs.contracts.vec2.Vec2.get_mut as g
 use Rattle.starlark_vec2.proofs.vec2.Vec2.get_mut.Symbol.{name as #lend}
 use Rattle.starlark_vec2.proofs.vec2.Vec2.get_mut.Met as lend
 use Rattle.starlark_vec2.proofs.LentInOption.{either, in_none, PairOf}
-use Rattle.starlark_columns.proofs.Walking.{option_map}
+use Rattle.starlark_columns.proofs.LogicNames.{option_map}
 use Rattle.starlark_callers.proofs.Steps.{both, pair_laws, good_value, within, Kept, lent_within, back_again, both_followed, left_two, left_neither, in_some}
 use Rattle.starlark_callers.specs.contracts.lent.put.put_pair as p
 use Rattle.starlark_callers.proofs.lent.put.put_pair.Symbol.{name as #put}
