@@ -1,6 +1,6 @@
 pub mod Counted
-pub mod FirstValues
-pub mod Bound
+pub mod Copied
+pub mod Found
 pub mod CacheLemmas
 pub mod Interning
 pub mod Ordered

@@ -1,6 +1,6 @@
 -- How many values a value is made of.
 use Rattle.std.specs.Prelude.{ℕ, ◌+◌, List, [], ◌∷◌, map}
-use Rattle.starlark_hash.specs.Entries.{entry_value}
+use Rattle.std.specs.Map.{values_of}
 use Rattle.starlark_uses.specs.declared.value.Value.{Value}
 use Rattle.starlark_uses.specs.declared.value.Value.TheOpen.{Value-F}
 use Rattle.starlark_uses.specs.declared.value.Value.TheFolds.{fold-Value}
@@ -16,12 +16,12 @@ count_step Value-F.None = 1
 count_step (Value-F.Int n) = 1
 count_step (Value-F.Text s) = 1
 count_step (Value-F.List v) = 1 + sum_of v.items
-count_step (Value-F.Dict m) = 1 + sum_of (map entry_value m.entries)
+count_step (Value-F.Dict d) = 1 + sum_of (values_of d.entries)
 
 -- how many values a value is made of, itself included
 abbrev pub count : Value → ℕ
 count = fold-Value ℕ count_step
 
--- the same of several values
+-- how many values several are made of, themselves included
 abbrev pub count_all : List Value → ℕ
 count_all vs = sum_of (map count vs)

@@ -1,4 +1,6 @@
 pub mod Counts
+pub mod Spelling
+pub mod Pairs
 pub mod Bindings
 pub mod Cache
 pub mod Interned

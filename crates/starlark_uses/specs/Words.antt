@@ -1,16 +1,15 @@
--- The words of a text, and a map that counts them. A word is given by its bytes.
+-- The words of a text, and a dictionary that counts them. A word is given by its bytes.
 use Rattle.std.specs.Prelude.{◌≡◌, ℕ, ◌+◌, ◌<◌, List, [], ◌∷◌, ◌++◌, length, if◌then◌else◌, count_by}
 use Rattle.std.specs.Char.{is_whitespace, is_not_whitespace}
 use Rattle.std.specs.Option.{unwrap_or}
 use Rattle.std.specs.Str.{bytes_eq, NoCharPasses, EmptyOrStartsWithPassing}
 use Rattle.std.specs.declared.alloc.Global.{Global}
 use Rattle.std.specs.declared.string.String.{String}
-use Rattle.starlark_small.specs.Lookup.{get_text}
-use Rattle.starlark_small.specs.Map.{Map}
+use Rattle.starlark_dict.specs.Dict.{Dict, get_by_text}
 
 -- a number under each string
 abbrev pub Tally : Type 0
-Tally = Map (String Global) ℕ
+Tally = Dict (String Global) ℕ
 
 -- the text is white space, then this word, then the rest, which is empty or begins with white space
 pub record BeginsWithWord (text word rest : List ℕ) : Type 0 where
@@ -30,20 +29,20 @@ HasWords text (word ∷ words) = (rest : List ℕ) × BeginsWithWord text word r
 abbrev pub times : List ℕ → List (List ℕ) → ℕ
 times word words = count_by (bytes_eq word) words
 
--- the number of a word, and 0 of one that the map lacks
+-- the number of a word, and 0 of one that the dictionary lacks
 abbrev pub count_of : Tally → List ℕ → ℕ
-count_of tally word = unwrap_or (get_text tally word) 0
+count_of tally word = unwrap_or (get_by_text tally word) 0
 
--- no word has the number 0, so that the map has no word but those that it counts
+-- no word has the number 0, so that the dictionary has no word but those that it counts
 abbrev pub HasNoZero : Tally → Type 0
-HasNoZero tally = (word : List ℕ) → 0 < unwrap_or (get_text tally word) 1
+HasNoZero tally = (word : List ℕ) → 0 < unwrap_or (get_by_text tally word) 1
 
 -- new counts this word once more than old, and each other as often
 pub record CountsOneMore (old new : Tally) (word : List ℕ) : Type 0 where
   pub no_zero : HasNoZero new
   pub counts : (other : List ℕ) → count_of new other ≡ count_of old other + (if bytes_eq other word then 1 else 0)
 
--- the map counts each word as often as it is among these
+-- the dictionary counts each word as often as it is among these
 pub record IsTallyOf (words : List (List ℕ)) (tally : Tally) : Type 0 where
   pub no_zero : HasNoZero tally
   pub counts : (word : List ℕ) → count_of tally word ≡ times word words

@@ -1,12 +1,11 @@
 //! The scopes of an interpreter: what a name is bound to, from the innermost scope outwards.
 ghost use Rattle.std.specs.Prelude.{◌≡◌, ℕ, List, [], ◌∷◌, ◌++◌, length, false, None, Some, IfErr, IfOk, IsTrue, OnErr, OnOk};
 ghost use Rattle.std.specs.Option.{option_copied};
-ghost use Rattle.std.specs.String.{string_bytes, string_eq};
-ghost use Rattle.starlark_hash.specs.Entries.{IsSingle};
+ghost use Rattle.std.specs.String.{string_bytes};
 ghost use Rattle.starlark_uses.specs.Bindings.{IsInnermost, bound, found, lookup, scopes_of};
 
+use starlark_dict::Dict;
 use starlark_hash::NoRoom;
-use starlark_small::SmallMap;
 use std::alloc::{AllocError, Global};
 use std::marker::Model;
 use std::mem;
@@ -15,16 +14,19 @@ use std::mem;
 /// anything.
 #[derive(Drop)]
 pub struct Scopes<V> {
-    innermost: SmallMap<String, V>,
+    innermost: Dict<String, V>,
     // Those around it, the outermost first.
-    enclosing: Vec<SmallMap<String, V>>,
+    enclosing: Vec<Dict<String, V>>,
     alloc: Global,
 }
 
 impl<V> Model for Scopes<V> {
-    ghost use Rattle.starlark_uses.specs.Bindings.{Bindings, bindings};
+    ghost use Rattle.std.specs.Coded.{codes};
+    ghost use Rattle.starlark_uses.specs.Bindings.{Bindings, bindings, bindings_code};
 
     ghost Value = { Bindings V };
+
+    ghost coded = { bindings_code (Prim.hlevel codes) V.code };
 
     ghost view = { λ s. bindings s.innermost s.enclosing.items };
 }
@@ -36,14 +38,14 @@ impl<V> Scopes<V> {
         ensures unbound { (name : List ℕ) → lookup result name ≡ None }
     {
         Scopes {
-            innermost: SmallMap::new(alloc),
+            innermost: Dict::new(alloc),
             enclosing: Vec::new(alloc),
             alloc,
         }
     }
 
     /// The value of the innermost scope that binds the name.
-    #[tactic(auto, using(crate::proofs::Bound::lookup_innermost))]
+    #[tactic(auto, using(crate::proofs::Found::lookup_innermost))]
     pub fn get(&self, name: &str) -> Option<&V>
         ensures value { option_copied result ≡ lookup self.now name.now }
         ensures innermost { IsInnermost (scopes_of self.now) name.now (option_copied result) }
@@ -55,7 +57,7 @@ impl<V> Scopes<V> {
     }
 
     /// The innermost scope, to be walked.
-    pub fn innermost(&self) -> &SmallMap<String, V>
+    pub fn innermost(&self) -> &Dict<String, V>
         ensures { result.now ≡ self.now.innermost }
     {
         &self.innermost
@@ -96,7 +98,6 @@ impl<V> Scopes<V> {
         ensures others { (other : List ℕ) → (other ≡ name.now → ⊥) → lookup self.new other ≡ lookup self.old other }
         ensures enclosing { self.new.enclosing ≡ self.old.enclosing }
     {
-        binds_once(&self.innermost);
         self.innermost.shift_remove(name)
     }
 }
@@ -111,7 +112,7 @@ impl<V: Drop> Scopes<V> {
         ensures unchanged { OnErr result (self.new ≡ self.old) }
     {
         self.enclosing.reserve(1)?;
-        let outer = mem::replace(&mut self.innermost, SmallMap::new(self.alloc));
+        let outer = mem::replace(&mut self.innermost, Dict::new(self.alloc));
         self.enclosing.push(outer)?;
         Ok(())
     }
@@ -133,7 +134,7 @@ impl<V: Drop> Scopes<V> {
 }
 
 // From the last of these scopes to the first.
-fn find<'a, V>(scopes: &'a [SmallMap<String, V>], name: &str) -> Option<&'a V>
+fn find<'a, V>(scopes: &'a [Dict<String, V>], name: &str) -> Option<&'a V>
     ensures { option_copied result ≡ found scopes.now name.now }
 {
     for i in (0..scopes.len()).rev() {
@@ -142,11 +143,4 @@ fn find<'a, V>(scopes: &'a [SmallMap<String, V>], name: &str) -> Option<&'a V>
         }
     }
     None
-}
-
-// Says that a scope binds no name twice.
-fn binds_once<V>(scope: &SmallMap<String, V>)
-    ensures { IsSingle string_eq scope.now.entries }
-{
-    scope.iter_hashed();
 }

@@ -2,11 +2,11 @@
 ghost use Rattle.std.specs.Prelude.{◌≡◌, ℕ, ◌+◌, ◌^◌, ◌<◌, List, IfOk, OnOk};
 ghost use Rattle.starlark_uses.specs.Words.{CountsOneMore, HasNoZero, HasWords, IsTallyOf, count_of};
 
-use starlark_small::SmallMap;
+use starlark_dict::Dict;
 use std::alloc::{AllocError, Global};
 
 /// How often each word comes.
-pub type Tally = SmallMap<String, u64>;
+pub type Tally = Dict<String, u64>;
 
 /// How often a word was counted.
 pub fn count_of(tally: &Tally, word: &str) -> u64
@@ -31,7 +31,7 @@ pub fn bump(tally: &mut Tally, alloc: Global, word: &str) -> Result<(), AllocErr
 pub fn tally_of(alloc: Global, text: &str) -> Result<Tally, AllocError>
     ensures { IfOk result (λ tally. (words : List (List ℕ)) × HasWords text.now words × IsTallyOf words tally) }
 {
-    let mut tally = SmallMap::new(alloc);
+    let mut tally = Dict::new(alloc);
     for word in text.split_whitespace() {
         bump(&mut tally, alloc, word)?;
     }

@@ -1,6 +1,6 @@
 use Rattle.starlark_hash.proofs.Common.{◌≡◌, suc, ◌-◌, ◌<◌, take, length, sym, ap, ◌∙◌, arith}
 use Rattle.starlark_uses.specs.Bindings.{bound, found}
-use Rattle.starlark_uses.proofs.Bound.{found_here, found_outer}
+use Rattle.starlark_uses.proofs.Found.{found_here, found_outer}
 use Rattle.starlark_uses.proofs.scopes.find.Goals as goal
 
 pub returns-in-Some : goal.returns-in-Some

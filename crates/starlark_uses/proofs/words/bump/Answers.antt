@@ -7,5 +7,5 @@ use Rattle.starlark_uses.proofs.words.bump.Goals as goal
 pub returns : goal.returns
 returns c =
     let key_is_word = IfOk-at_ok (λ s. string_bytes s ≡ c.args.word.now) c.in_ok-key.was c.from_str.ensures.ok in
-    let sets = text_at c.args.tally.now c.insert.new.self c.in_ok-key.key (c.count_of-next.result + 1) c.in_ok-insert.ensures.inserts.entries in
+    let sets = text_at c.args.tally.now c.insert.new.self c.in_ok-key.key (c.count_of-next.result + 1) c.in_ok-insert.ensures.updates in
     counts_one_more c.requires.no_zero (rw (key_is_word, c.count_of-next.ensures) at sets)

@@ -10,7 +10,7 @@ loop-word-init c =
     let whole = ap split_whitespace_rest c.into_iter-word-iterator.ensures.into_iter_gives ∙ c.split_whitespace-word-items.ensures.rest in
     record {
       seen = [];
-      counted = tally_of_none c.new-tally.ensures.lacks;
+      counted = tally_of_none c.new-tally.ensures.empty;
       and_rest = rw whole (λ words are. are);
       within = rw whole (omega arith);
     }

@@ -6,7 +6,7 @@ use Rattle.starlark_uses.proofs.value.Value.+count.Goals as goal
 pub loop-value-2-init : goal.loop-value-2-init
 loop-value-2-init t c =
     let all : 1 + count_all c.into_iter-value-iterator.result ≡ count c.args.self.now =
-    ap (λ vs. 1 + count_all vs) (c.into_iter-value-iterator.ensures.into_iter_gives ∙ c.values-value-items.ensures.values) ∙ sym (count_dict c.in-Dict.map) ∙ sym (ap count c.in-Dict.is) in
+    ap (λ vs. 1 + count_all vs) (c.into_iter-value-iterator.ensures.into_iter_gives ∙ c.values-value-items.ensures.rest) ∙ sym (count_dict c.in-Dict.dict) ∙ sym (ap count c.in-Dict.is) in
     (omega arith, ap (λ n. min n (2 ^ 64 - 1)) all)
 
 pub returns-in-None-value : goal.returns-in-None-value
