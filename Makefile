@@ -11,9 +11,11 @@ BODY ?=
 RUST ?=
 # the repository that is to have the crates
 INTO ?=
+# `dict`: dictionaries and small maps alone; `small`: small maps alone; `all`; none: what was copied before, or all
+TYPES ?=
 # not empty: what the checks of these crates kept comes too
 PROOFS ?=
-export SCRIPT CRATE BODY RUST INTO
+export SCRIPT CRATE BODY RUST INTO TYPES
 
 .PHONY: help try run demo play check tests test minutes pages bench chart vendor wrong refused hostile attack clean
 
@@ -75,9 +77,9 @@ chart: ## draws the pictures of speed from their tables, at once
 	@python3 bench/chart.py docs/SPEED.md "Texts" > docs/speed_texts.svg
 	@python3 bench/chart.py docs/SPEED.md "Beside Rust's maps" > docs/speed.svg
 
-vendor: ## copies starlark_map and the crates below it INTO another repository, whose CRATE is to use them, in seconds; with PROOFS=yes also their proofs, 4.5 GB
+vendor: ## copies the library INTO another repository, whose CRATE is to use it, in seconds; with TYPES=dict dictionaries and small maps alone; with PROOFS=yes also their proofs
 	$(says)
-	@./vendor/copy "$$INTO" $(if $(CRATE),"$$CRATE") $(if $(PROOFS),--proofs)
+	@./vendor/copy "$$INTO" $(if $(CRATE),"$$CRATE") $(if $(TYPES),"--types=$$TYPES") $(if $(PROOFS),--proofs)
 
 wrong: ## tries the wrong body BODY, in about a minute, and prints the goal at which the check stops; or those beside the gate, of CRATE or of all: minutes for each crate
 	$(says)
