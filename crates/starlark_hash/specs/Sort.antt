@@ -20,7 +20,7 @@ module _ {K V : Type 0} (cmp : K → K → Ordering) where
   abbrev pub key_lt : Entry K V → Entry K V → Bool
   key_lt d e = is_lt (cmp (entry_key d) (entry_key e))
 
-  -- the keys ascend
+  -- no key is greater than the next
   abbrev pub Ascends : List (Entry K V) → Type 0
   Ascends es = IsSortedByKey entry_key cmp es
 

@@ -9,9 +9,10 @@ use std::hash::{BuildHasher, Hasher};
 /// A fast hasher that does not withstand keys chosen by an attacker.
 ///
 /// The state begins at 0. A word w changes the state s to (s rotated left by 5 bits, xor w) times 0x517cc1b727220a95,
-/// modulo 2^64. A number of up to 64 bits is one word. A number of 128 bits is two words, the lower first. Bytes are
-/// read as little-endian words on every machine: words of 8 bytes, then one of 4, one of 2 and one of 1, as far as
-/// bytes are left. `finish` returns the state, which another build of this crate need not reproduce.
+/// modulo 2^64. A number of up to 64 bits is one word. A number of 128 bits is two words, the lower first. `write` cuts
+/// bytes into words, and reads each as a little-endian number on every machine. Each 8 bytes are a word. Of the bytes
+/// that are left, which are 7 at most, the first 4 are a word if there are as many, then 2, then 1. `finish` returns the
+/// state, which another build of this crate need not reproduce.
 #[derive(Drop)]
 pub struct StarlarkHasher {
     state: u64,
@@ -150,8 +151,8 @@ impl StarlarkHasher {
     }
 }
 
-// The hasher after any bytes. It is out of line, so that code that feeds a text is small enough to be inlined. The
-// hasher is passed by value, so that its state stays in a register.
+// The hasher after `bytes` were written. The function is not inlined, so that code that feeds a text is small enough to be
+// inlined itself. The hasher is passed by value, so that its state stays in a register.
 #[inline(never)]
 fn after_bytes(hasher: StarlarkHasher, bytes: &[u8]) -> StarlarkHasher
     ensures { result ≡ starlark.write hasher bytes.now }

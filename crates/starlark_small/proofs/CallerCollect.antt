@@ -1,4 +1,4 @@
--- What look-ups find once an iterator's items went in, and in a list of clones.
+-- Look-ups after the insertion of an iterator's items, and in a list of clones.
 use Rattle.starlark_hash.proofs.Common.{◌||◌, nat_lt, common_steps, ◌≡◌, Bool, true, false, List, [], ◌∷◌, map, position, cond, Option, Some, None, is_some, Result, Ok, Err, OnOk, refl, sym, ap, ◌∙◌, subst, ℕ, get_or, length, IsSome, slice_get, arith, IfSome, IsEquivalence, HashWrites, Drains, AllZip, update_all, keys_of, map-id, is_some-update_all, slice_get-get_or, slice_get-map, option_map, ◌&&◌, ◌<◌, ◌≤◌, ◌++◌, option_map_or, AllZip-get_or, length_all_zip}
 use Rattle.core.proofs.iter.runs.Lists.{at_some}
 use Rattle.core.proofs.iter.runs.Made.{at-is, each, run, to_end}
@@ -37,7 +37,7 @@ module _ {K V : Type 0} (eq : K → K → Bool) (laws : IsEquivalence eq) (feeds
   abbrev look : List (Entry K V) → K → Option V
   look es key = found (eq key) (own_hash feeds key) es
 
-  -- one item more
+  -- one more item
   looked_after : (es : List (Entry K V)) (p : K × V) (key : K) → look (insert_entry eq es (own_hashed feeds p.0) p.1) key ≡ update eq (look es) p.0 (Some p.1) key
   looked_after es p key =
       let wrote = writes-inserted eq laws es (insert_entry eq es (own_hashed feeds p.0) p.1) (own_hashed feeds p.0) p.1 refl in
@@ -52,7 +52,7 @@ module _ {K V : Type 0} (eq : K → K → Bool) (laws : IsEquivalence eq) (feeds
       looked_all xs (insert_entry eq es (own_hashed feeds x.0) x.1) key ∙ (λ i. update_all eq (λ k. looked_after es x k i) xs key)
 
   module _ {T U : Type 0} (steps : T → Option (K × V) → T → Type 0) (becomes : U → T → Type 0) (iter : U) where
-    -- where items were inserted in turn, each key has the last value that they have for it
+    -- after items were inserted in turn, each key has the last value that they have for it
     inserted_last : (it : T) → becomes iter it → (xs : List (K × V)) → Drains steps it xs → (old : List (Entry K V)) (new : Map K V) → new.entries ≡ insert_all eq old (map (own_entry feeds) xs) → FindsLast eq feeds steps becomes iter (look old) new
     inserted_last it made xs drained old new put =
         (it, made, run_of steps it xs (λ xs. (key : K) → look new.entries key ≡ update_all eq (look old) xs key) drained (λ key. ap (λ l. look l key) put ∙ looked_all xs old key))
@@ -139,7 +139,7 @@ module _ {K V : Type 0} (eq : K → K → Bool) (laws : IsEquivalence eq) (key :
   position-clones q hash (e ∷ es) [] all = absurd all
   position-clones q hash (e ∷ es) (f ∷ fs) all = grind (arith, common_steps, position-cons, alike_clone q hash e f all.0, position-clones q hash es fs all.1)
 
-  -- clones of a single list are one
+  -- the clone of a list without equal entries has none
   pub IsSingle-clones : (es fs : List (Entry K V)) → AllZip (IsEntryClone key value) es fs → IsSingle eq es → IsSingle eq fs
   IsSingle-clones es fs all single i j d before below =
       let inside : j < length es = omega (arith, below, length_all_zip (IsEntryClone key value) es fs all) in
@@ -148,7 +148,7 @@ module _ {K V : Type 0} (eq : K → K → Bool) (laws : IsEquivalence eq) (key :
       alike_clone (entry_key (get_or fs i d)) (entry_hash (get_or fs i d)) (get_or es j d) (get_or fs j d) (AllZip-get_or (IsEntryClone key value) es fs j d d all inside)
       ∙ (λ k. is_under (a.0 k) (get_or es j d) && same k) ∙ single i j d before inside
 
-  -- clones are found where their originals are
+  -- clones are found as their originals are
   pub found-clones : (es fs : List (Entry K V)) → AllZip (IsEntryClone key value) es fs → (hash : StarlarkHashValue) (q : K) → is_some (found (eq q) hash fs) ≡ is_some (found (eq q) hash es)
   found-clones es fs all hash q = sym (is_some-found (eq q) hash fs) ∙ ap is_some (position-clones q hash es fs all) ∙ is_some-found (eq q) hash es
 

@@ -1,4 +1,4 @@
--- What a write leaves, of a value where one stands and through an entry.
+-- Writes of a value at a key, and through an entry.
 use Rattle.starlark_hash.proofs.Common.{common_steps, ◌≡◌, ℕ, zero, suc, ◌<◌, Bool, true, List, [], ◌∷◌, length, Some, refl, sym, ap, ◌∙◌, arith, IsSome, slice_get, Result, Ok, Err, IsErr, IsOk, OnErr, OnOk, ◌≤◌, subst, option_map, IsEquivalence, false≢true}
 use native.Mathlib.Bridge.{le_prop}
 use Rattle.starlark_hash.specs.declared.hashed.Hashed.{Hashed}
@@ -20,7 +20,7 @@ use Rattle.starlark_small.proofs.CallerOwn.{own-inserted}
 use Rattle.starlark_small.proofs.CallerInsert.{inserts-put, part-at, writes-inserted}
 
 module _ {K V : Type 0} (eq : K → K → Bool) (laws : IsEquivalence eq) (hash : StarlarkHashValue) (passes : K → Bool) (one : (x y : K) → passes x ≡ true → passes y ≡ eq x y) where
-  -- a value that is written where one stands
+  -- a value is written at a key that is there
   pub writes-with_value : (old new : List (Entry K V)) (w : V) → IsSome (found passes hash old) → new ≡ with_value old (position_of hash passes old) w → Writes eq passes hash old new (Some w)
   unfolding found
   writes-with_value old new w there put = rw put (
@@ -28,7 +28,7 @@ module _ {K V : Type 0} (eq : K → K → Bool) (laws : IsEquivalence eq) (hash 
     λ h other not. written_there (under h (eq other)) (under hash passes) (apart_other eq laws hash passes one (hashed h other) not) old (position_of hash passes old) w refl,
   )
 
--- what is put under an entry goes into the map under its key
+-- what is put at an entry is in the map under its key
 module _ {K V : Type 0} {g : PartialEq.Ghosts K} (eq : K → K → Bool) (m : Map K V) (key : Hashed K) where
   pub inserted-puts : (e : E.Entry K V g) → IsEntryOf eq m key e → (value : V) (new : Map K V) → Puts e value new → new.entries ≡ insert_entry eq m.entries key value
   unfolding Puts
@@ -81,7 +81,7 @@ module _ {K V : Type 0} {g : PartialEq.Ghosts K} where
   unfolding Refuses
   refuses-occupied o e new refused = absurd refused.0
 
-  -- an entry that was written has that value, and what is put under it is put under the first
+  -- an entry that was written has that value, and what is put at it is put at the first one
   pub value-with_entry_value : (o : OccupiedEntry K V g) (u : V) → option_map entry_value (stored (with_entry_value o u)) ≡ Some u
   value-with_entry_value o u = value_set (occupied_map o).now.entries (occupied_index o) u o.within
 

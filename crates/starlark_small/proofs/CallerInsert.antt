@@ -1,4 +1,4 @@
--- What an insertion leaves under its key, at all other keys, of keys in order, of the length and of the sum of the values.
+-- Insertions: what look-ups find afterwards, the keys in order, the length and the sum of the values.
 use Rattle.starlark_hash.specs.Hasher.{own_hash}
 use Rattle.starlark_hash.proofs.Common.{HashWrites, common_steps, ◌≡◌, ◌+◌, Bool, List, [], ◌∷◌, ◌++◌, length, map, Some, None, is_some, refl, arith, ℕ, zero, suc, ◌<◌, ◌≤◌, Option, slice_get, if◌then◌else◌, option_map, IsEquivalence, map-append}
 use Rattle.starlark_hash.specs.declared.hashed.Hashed.{Hashed}
@@ -16,7 +16,7 @@ use Rattle.starlark_small.specs.Insert.{Inserts}
 use Rattle.starlark_small.proofs.CallerOwn.{own-inserted}
 
 module _ {K V : Type 0} (eq : K → K → Bool) (laws : IsEquivalence eq) where
-  -- an insertion: the key is found with the value that was put, and every other key as before
+  -- after an insertion the key is found with the inserted value, and every other key as before
   pub writes-inserted : (old new : List (Entry K V)) (key : Hashed K) (value : V) → new ≡ insert_entry eq old key value → Writes eq (eq (key_of key)) (hash_of key) old new (Some value)
   unfolding found
   writes-inserted old new key value put = rw put (
@@ -31,7 +31,7 @@ pub length-put : {K V : Type 0} (eq : K → K → Bool) (old new : List (Entry K
     → length new ≡ length old + (if is_some (found (eq (key_of key)) (hash_of key) old) then 0 else 1)
 length-put eq old new key value put = rw put (grind (arith, common_steps, length-set_value_at old, is_some-found (eq (key_of key)) (hash_of key) old))
 
--- an insertion of a new key, and the keys in order after any
+-- an insertion of a new key, and the keys in order after any insertion
 module _ {K V : Type 0} (eq : K → K → Bool) (old new : Map K V) (key : Hashed K) (value : V) (put : new.entries ≡ insert_entry eq old.entries key value) where
   pub entries-pushed : found (eq (key_of key)) (hash_of key) old.entries ≡ None → new.entries ≡ old.entries ++ (key, value) ∷ []
   entries-pushed lacking = grind (arith, common_steps, put, is_some-found (eq (key_of key)) (hash_of key) old.entries)
@@ -45,14 +45,14 @@ module _ {K V : Type 0} (measure : V → ℕ) where
   total-set (e ∷ es) zero value below = omega (arith, sum_by-cons measure)
   total-set (e ∷ es) (suc i) value below = omega (arith, sum_by-cons measure, total-set es i value (omega (arith, below)))
 
-  -- a value that stands at an index is a part of what all weigh
+  -- the measure of the value at an index is at most the sum of all
   pub part-at : (es : List (Entry K V)) (index : Option ℕ) → weight_of measure (value_at es index) ≤ total_of measure es
   part-at es None = omega arith
   part-at [] (Some i) = omega arith
   part-at (e ∷ es) (Some zero) = omega (arith, sum_by-cons measure)
   part-at (e ∷ es) (Some (suc i)) = omega (arith, sum_by-cons measure, part-at es (Some i))
 
-  -- an insertion
+  -- the sum of the values after an insertion
   pub total-inserted : (eq : K → K → Bool) (old new : List (Entry K V)) (key : Hashed K) (value : V) → new ≡ insert_entry eq old key value
       → total_of measure new + weight_of measure (value_at old (match_of eq old key)) ≡ total_of measure old + measure value
   total-inserted eq old new key value put = grind (arith, common_steps, put, map-append entry_value old ((key, value) ∷ []), sum_by_push measure (map entry_value old) value, total-set old, position-within (λ e. alike eq key e.0) old)
@@ -62,7 +62,7 @@ module _ {K V : Type 0} (measure : V → ℕ) where
   unfolding found
   total-put eq old new key value put = total-inserted eq old new key value put
 
--- an insertion where the key is lacking is one at the end
+-- an insertion of a key that is lacking appends it
 pub insert_entry-lacking : {K V : Type 0} (eq : K → K → Bool) (key : Hashed K) (value : V) (es new : List (Entry K V)) → found (eq (key_of key)) (hash_of key) es ≡ None → new ≡ es ++ (key, value) ∷ []
     → new ≡ insert_entry eq es key value
 insert_entry-lacking eq key value es new lacking is = rw (position_of-found (eq (key_of key)) (hash_of key) es lacking) is
@@ -77,7 +77,7 @@ inserts-put eq old new key value put = record {
   total = λ measure. total-put measure eq old.entries new.entries key value put;
 }
 
--- what an insertion leaves that was done: by the list that it leaves
+-- the clauses of an insertion that was done, by the list that it leaves
 pub record IsDone {K V : Type 0} (eq : K → K → Bool) (old new : Map K V) (key : Hashed K) (value : V) : Type 0 where
   pub updates : Writes eq (eq (key_of key)) (hash_of key) old.entries new.entries (Some value)
   pub inserts : Inserts eq old new key value
@@ -91,6 +91,6 @@ module _ {K V : Type 0} (eq : K → K → Bool) (laws : IsEquivalence eq) (old n
     own = λ feeds. own-inserted feeds eq old.entries new.entries key value put;
   }
 
-  -- where the key is lacking
+  -- the key was lacking
   pub is-appended : found (eq (key_of key)) (hash_of key) old.entries ≡ None → new.entries ≡ old.entries ++ (key, value) ∷ [] → IsDone eq old new key value
   is-appended lacking is = is-done (insert_entry-lacking eq key value old.entries new.entries lacking is)

@@ -1,4 +1,4 @@
--- What a walk shows: its values, each of which is found, and their number; and which keys are found after one that writes.
+-- Iterators: each value that they yield is found, their number, and which keys are found after one that writes.
 use Rattle.std.proofs.lemmas.Bool.{false_from_ne_true}
 use Rattle.starlark_hash.specs.HashValue.{hash_number}
 use Rattle.starlark_hash.specs.Hasher.{own_hash}
@@ -21,7 +21,7 @@ module _ {K V : Type 0} (eq : K → K → Bool) (laws : IsEquivalence eq) (es : 
   each-found i None at = tt
   each-found i (Some e) at = (entry_hash e, entry_key e, found-placed eq laws es i e single at, λ feeds. own-placed feeds es i e at)
 
-  -- where no two entries are alike
+  -- no two entries have one hash and equal keys
   pub values-found : (values : List V) → values ≡ map entry_value es → AreFound eq es values
   unfolding found
   values-found values are = subst (AreFound eq es) (sym are) (
@@ -30,7 +30,7 @@ module _ {K V : Type 0} (eq : K → K → Bool) (laws : IsEquivalence eq) (es : 
     (λ i. rw (slice_get-map entry_value es i) (each-found i (slice_get es i) refl)),
   )
 
--- no two keys are equal, where no two entries are alike and each key is under its own hash
+-- no two keys are equal if no two entries have one hash and equal keys, and each key is under its own hash
 pub has-distinct_keys : {K V : Type 0} (eq : K → K → Bool) (m : Map K V) → IsSingle eq m.entries → HasDistinctKeys eq m
 unfolding AreOwnEntries
 has-distinct_keys eq m single feeds alike own = λ i j d before below.
@@ -47,9 +47,9 @@ module _ {K V : Type 0} (test : K → Bool) (hash : StarlarkHashValue) where
   position-with_values (e ∷ es) [] = grind (arith, common_steps, position-cons, position-with_values es [])
   position-with_values (e ∷ es) (w ∷ ws) = grind (arith, common_steps, position-cons, position-with_values es ws)
 
-  -- a key is there after values were written if it was
+  -- a key is there after values were written exactly if it was
   pub found-with_values : (es ws : List (Entry K V)) → is_some (found test hash (with_values es ws)) ≡ is_some (found test hash es)
   found-with_values es ws = sym (is_some-found test hash (with_values es ws)) ∙ ap is_some (position-with_values es ws) ∙ is_some-found test hash es
 
--- what the makers of a walk want
+-- the facts that the calls that make iterators want
 pub ruleset walked = (values_of-pair_of, length-map)

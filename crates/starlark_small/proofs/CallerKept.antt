@@ -28,7 +28,7 @@ module _ {A V : Type 0} {before after : Map (String A) V} {key : Hashed (String 
       hash before.entries after.entries key value inserts.entries
       (grind (arith, common_steps, not, bytes_eq-Decides (string_bytes (key_of key)) text, bytes_eq-Decides text (string_bytes (key_of key))))
 
--- values below a bound, and the new one, are below a bound that is no less
+-- if the old values are below a bound, and the new one is below a second bound that is no less, all are below the second
 pub All-below-inserts : {K : Type 0} {eq : K → K → Bool} {before after : Map K ℕ} {key : Hashed K} {value : ℕ} → Inserts eq before after key value
     → (bound most : ℕ) → All (λ v. v < bound) (map entry_value before.entries) → bound ≤ most → value < most → All (λ v. v < most) (map entry_value after.entries)
 All-below-inserts {before = before} inserts bound most all wider below =

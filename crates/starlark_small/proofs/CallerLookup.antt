@@ -32,7 +32,7 @@ module _ {X : Type 0} (p : X → Bool) where
   none_among [] all = refl
   none_among (x ∷ xs) all = rw (position-cons p x xs, all 0 x (omega arith), none_among xs (λ k d below. all (suc k) d (omega arith))) refl
 
--- whether a key stands under this one's hash and is equal to it
+-- whether a key has this one's hash and is equal to it
 abbrev pub alike : {K : Type 0} → (K → K → Bool) → Hashed K → Hashed K → Bool
 alike eq key k = eqb (hash_of k).0 (hash_of key).0 && eq (key_of key) (key_of k)
 
@@ -41,7 +41,7 @@ module _ {K V : Type 0} (q : Hashed K → Bool) where
   abbrev tests : Entry K V → Bool
   tests e = q e.0
 
-  -- written where the key stands
+  -- written at the key's index
   pub written_here : (es : List (Entry K V)) (i : ℕ) (w : V) → position tests es ≡ Some i → value_at (set_value_at es i w) (position tests (set_value_at es i w)) ≡ Some w
   written_here [] i w at = cc
   written_here (e ∷ es) zero w at = grind (arith, common_steps, position-cons)
@@ -78,7 +78,7 @@ module _ {K V : Type 0} (q : Hashed K → Bool) where
 abbrev pub under : {K : Type 0} → StarlarkHashValue → (K → Bool) → Hashed K → Bool
 under hash passes k = eqb (hash_of k).0 hash.0 && passes (key_of k)
 
--- a key stands where it was put
+-- a key is found where it was put
 pub same_key : {K : Type 0} (eq : K → K → Bool) → IsEquivalence eq → (key : Hashed K) → alike eq key key ≡ true
 same_key eq laws key = grind (arith, nat_tests, laws.refl (key_of key))
 
@@ -115,7 +115,7 @@ module _ {K V : Type 0} (test : K → Bool) (hash : StarlarkHashValue) (es : Lis
   unfolding found
   none_found is = ap (value_at es) is
 
--- nothing is found where there are no entries
+-- nothing is found in an empty list
 pub empty-found : {K V : Type 0} (es : List (Entry K V)) → es ≡ [] → (test : K → Bool) (hash : StarlarkHashValue) → found test hash es ≡ None
 unfolding found
 empty-found es none test hash = ap (λ l. value_at l (position_of hash test l)) none
@@ -189,5 +189,5 @@ module _ {K V : Type 0} (test : K → Bool) (hash : StarlarkHashValue) (m : Map 
     key = elim o as (λ o. o ≡ position_of hash test m.entries → IfSome o (λ _. HasKey test m)) [ None ↦ λ is. tt | Some i ↦ λ is. has-key test hash m.entries i (sym is) ] is;
   }
 
--- what a look-up wants, and what layers say of it by index
+-- the facts on look-ups that layers state by index, as one ruleset
 pub ruleset look_ups = (names-index, found_is, finds-key, found-value_at, found_key-entry_at, is_some-found, position_of-found, entry_at-found)

@@ -19,7 +19,7 @@ use Rattle.starlark_small.proofs.CallerLookup.{alike, keys-set_value_at}
 from-before : {X : Type 0} (xs ys : List X) (y : X) → ((P : X → Type 0) → All P xs → All P ys) → Contains ys y → Contains xs y
 from-before xs ys y all at = All-contains (Contains xs) ys y (all (Contains xs) (All-contains_itself xs)) at
 
--- the same where one item may come
+-- an item of a list to which one item may have been added
 cases-from : {X : Type 0} (xs ys : List X) (x y : X) → ((P : X → Type 0) → All P xs → P x → All P ys) → Contains ys y → Contains xs y ⊎ (x ≡ y)
 cases-from xs ys x y all at =
     let P = λ (z : _). Contains xs z ⊎ (x ≡ z) in All-contains P ys y (all P (All-weaker (Contains xs) P (λ z. inl) xs (All-contains_itself xs)) (inr refl)) at
@@ -31,11 +31,11 @@ module _ {K V X : Type 0} (f : Entry K V → X) where
   all-without P es None all = all
   all-without P es (Some i) all = rw (map-remove f es i) (All-append P (take i (map f es)) (drop (suc i) (map f es)) (All-take P i (map f es) all) (All-drop P (suc i) (map f es) all))
 
-  -- what is pushed is the last
+  -- what is appended is the last item
   all-pushed : (P : X → Type 0) (es : List (Entry K V)) (e : Entry K V) → All P (map f es) → P (f e) → All P (map f (es ++ e ∷ []))
   all-pushed P es e all p = rw (map-append f es (e ∷ [])) (All-push P (map f es) (f e) all p)
 
-  -- a value that is written stands at its key
+  -- a value that is written is at its key
   map-set_value_at : (es : List (Entry K V)) (i : ℕ) (w : V) (d : Entry K V) → map f (set_value_at es i w) ≡ set (map f es) i (f ((get_or es i d).0, w))
   map-set_value_at (e ∷ es) (suc i) w d = ap (λ l. f e ∷ l) (map-set_value_at es i w d)
   map-set_value_at es i w d = refl
@@ -44,7 +44,7 @@ module _ {K V X : Type 0} (f : Entry K V → X) where
   all-written P [] i w all p = all
   all-written P (e ∷ es) i w all p = rw (map-set_value_at (e ∷ es) i w e) (All-set P (map f (e ∷ es)) i (f ((get_or (e ∷ es) i e).0, w)) (p e) all)
 
--- An insertion puts in a new key last, or the value at a key that stays.
+-- An insertion appends a new key, or writes the value at a key that stays.
 module _ {K V : Type 0} {eq : K → K → Bool} {before after : Map K V} {key : Hashed K} {value : V} (inserts : Inserts eq before after key value) where
   by-index : (F : List (Entry K V) → Type 0) → F (before.entries ++ (key, value) ∷ []) → ((i : ℕ) → match_of eq before.entries key ≡ Some i → F (set_value_at before.entries i value)) → F after.entries
   by-index F last there = subst F (sym inserts.entries)
@@ -53,7 +53,7 @@ module _ {K V : Type 0} {eq : K → K → Bool} {before after : Map K V} {key : 
         | Some i ↦ there i
       ]) refl)
 
-  -- what stands where the key was found is equal to it
+  -- the stored key at the index that was found is equal to the key
   equal-at : (i : ℕ) (d : Entry K V) → match_of eq before.entries key ≡ Some i → eq (key_of key) (entry_key (get_or before.entries i d)) ≡ true
   equal-at i d at = (and_parts (eqb (hash_of (get_or before.entries i d).0).0 (hash_of key).0) (eq (key_of key) (entry_key (get_or before.entries i d))) (position-passes (λ e. alike eq key e.0) before.entries i d at)).1
 
@@ -73,7 +73,7 @@ module _ {K V : Type 0} {eq : K → K → Bool} {before after : Map K V} {key : 
       (all-pushed pair_of P before.entries (key, value) all (p (key_of key) (laws.refl (key_of key))))
       (λ i at. all-written pair_of P before.entries i value all (λ d. p (entry_key (get_or before.entries i d)) (equal-at i d at)))
 
-  -- what is read of the entry is there, where it is the same at the key that stays
+  -- what is read of the entry is there, if it is the same at the stored key
   one-inserts : {X : Type 0} (f : Entry K V → X) → ((i : ℕ) → match_of eq before.entries key ≡ Some i → f ((get_or before.entries i (key, value)).0, value) ≡ f (key, value)) → Contains (map f after.entries) (f (key, value))
   one-inserts f same = by-index (λ es. Contains (map f es) (f (key, value)))
       (rw (map-append f before.entries ((key, value) ∷ [])) (Contains-push (map f before.entries) (f (key, value))))
@@ -88,7 +88,7 @@ module _ {K V : Type 0} {eq : K → K → Bool} {before after : Map K V} {key : 
   pub Contains-values-inserts_cases : (v : V) → Contains (map entry_value after.entries) v → Contains (map entry_value before.entries) v ⊎ (value ≡ v)
   Contains-values-inserts_cases v = cases-from (map entry_value before.entries) (map entry_value after.entries) value v All-values-inserts
 
-  -- keys that were there stay, and no other comes than the one that was brought
+  -- keys that were there stay, and only the inserted one is new
   pub Contains-keys-inserts_other : (k : K) → Contains (keys before) k → Contains (keys after) k
   Contains-keys-inserts_other k there = by-index (λ es. Contains (map entry_key es) k)
       (rw (map-append entry_key before.entries ((key, value) ∷ [])) (Contains-append_left (keys before) (key_of key ∷ []) k there))
@@ -97,7 +97,7 @@ module _ {K V : Type 0} {eq : K → K → Bool} {before after : Map K V} {key : 
   pub Contains-keys-inserts_cases : (k : K) → Contains (keys after) k → Contains (keys before) k ⊎ (key_of key ≡ k)
   Contains-keys-inserts_cases k = cases-from (keys before) (keys after) (key_of key) k All-keys-inserts
 
-  -- where equal keys are the same, as numbers, the key and its pair are among the new ones
+  -- if equal keys are the same, as numbers are, the key and its pair are among the new ones
   module _ (exact : (x y : K) → eq x y ≡ true → x ≡ y) where
     same-at : (i : ℕ) → match_of eq before.entries key ≡ Some i → entry_key (get_or before.entries i (key, value)) ≡ key_of key
     same-at i at = sym (exact (key_of key) (entry_key (get_or before.entries i (key, value))) (equal-at i (key, value) at))
@@ -132,5 +132,5 @@ module _ {K V : Type 0} (old new : Map K V) (index : Option ℕ) (w : V) (is : n
   pub Contains-values-writes_cases : (v : V) → Contains (map entry_value new.entries) v → Contains (map entry_value old.entries) v ⊎ (w ≡ v)
   Contains-values-writes_cases v = cases-from (map entry_value old.entries) (map entry_value new.entries) w v All-values-writes
 
--- all of these
+-- the ruleset of all of these
 pub ruleset members = (All-keys-inserts, All-values-inserts, All-pairs-inserts, Contains-values-inserts, Contains-values-inserts_cases, Contains-keys-inserts, Contains-keys-inserts_other, Contains-keys-inserts_cases, Contains-pairs-inserts, All-removes, Contains-removes, All-removes_at, Contains-removes_at, All-values-writes, Contains-values-writes_cases)

@@ -1,4 +1,4 @@
--- Which lists have each key under its own hash: what insertions, removals and moves leave of them.
+-- Keys under their own hashes stay so after insertions, removals and permutations.
 use Rattle.starlark_hash.proofs.Common.{take, drop, All-append, ◌<◌, length, get_or, ◌≡◌, ℕ, suc, Bool, List, [], ◌∷◌, ◌++◌, map, remove, Some, None, IsPermutation, refl, sym, ◌∙◌, subst, arith, Bor, MutBor, Mut, HashWrites, All, AllZip, option_map_or, All-head, All-map, All-push, All-tail, AllZip-get_or, length_all_zip, All-permutation}
 use Rattle.std.proofs.lemmas.List.Elements.{All-nil, All-take, All-drop}
 use Rattle.starlark_hash.specs.declared.hashed.Hashed.{Hashed}
@@ -18,7 +18,7 @@ use Rattle.starlark_small.proofs.CallerLookup.{empty-found}
 use Rattle.starlark_small.proofs.Retained.{all_retained}
 
 module _ {K V : Type 0} (feeds : K → HashWrites) where
-  -- the entry stands under its key's own hash
+  -- the entry is under its key's own hash
   abbrev is_own : Entry K V → Type 0
   is_own e = entry_hash e ≡ own_hash feeds (entry_key e)
 
@@ -53,7 +53,7 @@ module _ {K V : Type 0} (feeds : K → HashWrites) where
   unfolding AreOwnEntries
   own-inserted_entries eq new items put all = subst (All is_own) (sym put) (insert_entries_own eq items [] all (All-nil is_own))
 
-  -- clones of keys under their own hashes, where equal keys feed alike
+  -- clones of keys under their own hashes, if equal keys have equal hashes
   pub own-clones : (key : K → K → Type 0) (value : V → V → Type 0) → ((x y : K) → key x y → feeds x ≡ feeds y) → (es fs : List (Entry K V)) → AllZip (IsEntryClone key value) es fs
       → AreOwnEntries feeds es → AreOwnEntries feeds fs
   unfolding AreOwnEntries
@@ -63,7 +63,7 @@ module _ {K V : Type 0} (feeds : K → HashWrites) where
       let x = entry_key (get_or es k d) in
       is.0 ∙ own k d inside ∙ (λ i. own_hash (λ _. alike x (entry_key (get_or fs k d)) is.1 i) x)
 
-  -- a value that is written leaves hashes and keys
+  -- a write of a value leaves hashes and keys
   pub own-set_value_at : (es : List (Entry K V)) (i : ℕ) (w : V) → AreOwnEntries feeds es → AreOwnEntries feeds (set_value_at es i w)
   unfolding AreOwnEntries
   own-set_value_at es i w own = λ k d below. simp set_value_at-key (own k d (omega (arith, below, length-set_value_at es i w)))
@@ -80,12 +80,12 @@ module _ {K V : Type 0} (feeds : K → HashWrites) where
   unfolding AreOwnEntries
   own-permuted old new moves own = All-permutation is_own old new moves own
 
-  -- whatever values are written
+  -- writes of any values
   pub own-with_values : (es ws : List (Entry K V)) → AreOwnEntries feeds es → AreOwnEntries feeds (with_values es ws)
   unfolding AreOwnEntries
   own-with_values es ws own = λ k d below.
       let inside : k < length es = omega (arith, below, length-with_values es ws) in
       simp (key-at es (with_values es ws) (hashed_keys-with_values es ws) k d d inside) (own k d inside)
 
--- what holds of an empty map
+-- facts of an empty map
 pub ruleset emptied = (empty-found, own-empty)

@@ -1,4 +1,4 @@
--- What is found under a key where entries only change their indices.
+-- Look-ups after the entries were permuted.
 use Rattle.starlark_hash.proofs.Common.{◌≡◌, ◌+◌, ◌<◌, false, List, length, map, Option, Some, None, IsPermutation, Bool, refl, sym, ◌∙◌, arith, IsEquivalence, IsTotalOrder, IsSorted, is_lt, Ordering, get_or-map, keys_of, lookup, length-map, Contains, All-permutation, Contains-permutation, place_from_lookup, slice_get_within, get_or_from_slice_get}
 use Rattle.std.specs.List.{IsDistinct}
 use Rattle.std.proofs.lemmas.List.Elements.{All-from_recursion, recursion_from_All}

@@ -1,4 +1,4 @@
--- What look-ups find in a list once a closure was called at each of its entries, by what the calls answer and leave.
+-- Look-ups in a list after a closure was called on each of its entries.
 use Rattle.starlark_hash.proofs.Common.{common_steps, nat_tests, arith, ◌≡◌, ℕ, suc, Bool, true, false, cond, List, [], ◌∷◌, get_or, map, position, option_map, Option, Some, None, refl, sym, ap, subst, ◌∙◌, AllZip, IsEquivalence}
 use Rattle.starlark_hash.specs.declared.hash_value.StarlarkHashValue.{StarlarkHashValue}
 use Rattle.starlark_hash.specs.Entries.{Entry, IsSingle, entry_hash, entry_key, stands_under, value_at}
@@ -8,12 +8,12 @@ use Rattle.starlark_hash.proofs.PositionLemmas.{position-cons}
 use Rattle.starlark_small.specs.Retain.{with_each_value}
 use Rattle.starlark_small.proofs.CallerLookup.{none_among, none_found}
 
--- each entry is still there, under its key, and relates so to what it became
+-- each entry is still there under its key, and is related to what it became
 abbrev pub EachBecame : {K V : Type 0} → (Entry K V → Entry K V → Type 0) → List (Entry K V) → List (Entry K V) → Type 0
 EachBecame R es kept = AllZip (λ e d. (d.0 ≡ e.0) × R e d) es kept
 
 module _ {F K V : Type 0} (calls : F → Entry K V → Bool → Entry K V → F → Type 0) where
-  -- each call keeps its entry under its key, and relates it so to what it leaves, as long as the closure is one of these
+  -- each call in a state of this kind keeps its entry under its key, relates it to what it leaves, and leaves such a state
   pub each-became : (R : Entry K V → Entry K V → Type 0) (good : F → Type 0)
       → ((f : F) (e : Entry K V) (keeps : Bool) (d : Entry K V) (left : F) → good f → calls f e keeps d left → (keeps ≡ true) × (d.0 ≡ e.0) × R e d × good left)
       → (f : F) → good f → (es kept : List (Entry K V)) → Retains calls f es kept → EachBecame R es kept
@@ -23,7 +23,7 @@ module _ {F K V : Type 0} (calls : F → Entry K V → Bool → Entry K V → F 
       subst (EachBecame R (e ∷ es)) (sym (same ∙ ap (λ b. cond b (d ∷ rest) rest) s.0))
       ((s.1, s.2), each-became R good says left s.3 es rest others)
 
-  -- each call keeps its entry with the value that this makes of it, and leaves the closure
+  -- each call keeps its entry with the value that the function makes of it, and leaves the closure as it was
   pub each-written : (value : Entry K V → V) (f : F) → ((e : Entry K V) (keeps : Bool) (d : Entry K V) (left : F) → calls f e keeps d left → (keeps ≡ true) × (d ≡ (e.0, value e)) × (left ≡ f))
       → (f' : F) → f' ≡ f → (es kept : List (Entry K V)) → Retains calls f' es kept → kept ≡ with_each_value value es
   unfolding with_each_value
@@ -60,7 +60,7 @@ module _ {K V : Type 0} (test : K → Bool) (hash : StarlarkHashValue) where
         | false ↦ later e es rest ∙ found-first es
       ]
 
-  -- two look-ups that find nothing, or values of which the one became the other
+  -- two look-ups find nothing, or values that are so related
   module _ (R : Entry K V → Entry K V → Type 0) (S : Option V → Option V → Type 0) (none : S None None) (some : (e d : Entry K V) → R e d → S (Some e.1) (Some d.1)) where
     either : (e d : Entry K V) (v w : Option V) (b : Bool) → R e d → S v w → S (cond b (Some e.1) v) (cond b (Some d.1) w)
     either e d v w true r s = some e d r
@@ -107,7 +107,7 @@ module _ {F K V : Type 0} (calls : F → Entry K V → Bool → Entry K V → F 
   apart : (d e : Entry K V) → stands_under hash (eq key) d ≡ true → stands_under (entry_hash d) (eq (entry_key d)) e ≡ false → stands_under hash (eq key) e ≡ false
   apart d e here not = grind (arith, nat_tests, common_steps, laws.congr key (entry_key d) (entry_key e))
 
-  -- no other entry passes where one does
+  -- if an entry passes, no other one does
   lacks-after : (e : Entry K V) (es : List (Entry K V)) → IsSingle eq (e ∷ es) → stands_under hash (eq key) e ≡ true → first es ≡ None
   lacks-after e es single here =
       sym (found-first (eq key) hash es) ∙ none_found (eq key) hash es
@@ -125,7 +125,7 @@ module _ {F K V : Type 0} (calls : F → Entry K V → Bool → Entry K V → F 
         | false ↦ λ not. first-unwritten left es rest others (λ i j x before below. single (suc i) (suc j) x (omega arith) (omega arith)) v there
       ] refl
 
-  -- what is found was found, with this value
+  -- what is found was found with this value before
   pub found-unwritten : (f : F) (es kept : List (Entry K V)) → Retains calls f es kept → IsSingle eq es → (v : V) → found (eq key) hash kept ≡ Some v → found (eq key) hash es ≡ Some v
   found-unwritten f es kept retains single v at =
       found-first (eq key) hash es ∙ first-unwritten f es kept retains single v (sym (found-first (eq key) hash kept) ∙ at)

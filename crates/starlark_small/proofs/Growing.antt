@@ -1,4 +1,4 @@
--- How the capacity follows entries that come one after the other.
+-- The capacity after single insertions.
 use Rattle.starlark_hash.proofs.Common.{inl, inr, ◌≡◌, ℕ, zero, suc, ◌+◌, ◌-◌, ◌*◌, ◌^◌, ◌≤◌, max, min, List, [], ◌∷◌, ◌++◌, length, drop, Option, Some, None, refl, sym, ap, ◌∙◌, arith, Bool, nat_lt, if◌then◌else◌, option_map_or, nat_tests, length-drop, length_push}
 use Rattle.starlark_hash.specs.declared.hashed.Hashed.{Hashed}
 use Rattle.starlark_hash.specs.Entries.{match_of, set_value_at}
@@ -11,11 +11,11 @@ use Rattle.starlark_small.specs.Map.{Map}
 use Rattle.starlark_vec2.specs.PairList.{PairList, pair_list}
 use Rattle.starlark_vec2.specs.Growth.{push, push_all}
 
--- the capacity of a list of this length and capacity, after it made room for so many more
+-- the capacity of a list of this length and capacity after a reservation for n entries
 abbrev made : ℕ → ℕ → ℕ → ℕ
 made n len capacity = if nat_lt (capacity - len) n then max (len + n) (max 4 (min (2 * capacity) (2 ^ 64 - 1))) else capacity
 
--- the same after it made room for so many more, one after the other
+-- the capacity of such a list after n single insertions
 steps : ℕ → ℕ → ℕ → ℕ
 steps len capacity zero = capacity
 steps len capacity (suc n) = made 1 (len + n) (steps len capacity n)
@@ -41,12 +41,12 @@ module _ {K V : Type 0} where
   stepped_steps old new =
       pushed_steps (pair_list old.entries old.capacity) (drop (length old.entries) new.entries) ∙ ap (steps (length old.entries) old.capacity) (length-drop (length old.entries) new.entries)
 
-  -- how far such a capacity is from the old one
+  -- the capacity after single insertions, beside the old one
   pub stepped_bounds : (old new : Map K V) → length old.entries ≤ length new.entries → (old.capacity ≤ stepped_capacity old new) × (stepped_capacity old new ≤ max old.capacity (max 4 (2 * length new.entries)))
   stepped_bounds old new longer =
       grind (arith, stepped_steps old new, steps_bounds (length old.entries) old.capacity (length new.entries - length old.entries))
 
-  -- the entries came into an empty map
+  -- the map was empty
   pub stepped_from : (old new : Map K V) (n : ℕ) → old.entries ≡ [] → old.capacity ≡ n → stepped_capacity old new ≡ (push_all (pair_list [] n) new.entries).capacity
   stepped_from old new n none is = λ j. (push_all (pair_list (none j) (is j)) (drop (length (none j)) new.entries)).capacity
 
@@ -54,9 +54,9 @@ module _ {K V : Type 0} where
   unfolding steps
   stepped_none m = grind (arith, stepped_steps m m)
 
-  -- an entry more came, or none did
+  -- one more insertion, done or refused
   module _ (first mid last : Map K V) (longer : length first.entries ≤ length mid.entries) (before : mid.capacity ≡ stepped_capacity first mid) where
-    -- an entry was inserted
+    -- it was done
     pub stepped_inserted : (eq : K → K → Bool) (key : Hashed K) (value : V) (o : Option ℕ) → match_of eq mid.entries key ≡ o → last.entries ≡ option_map_or (λ i. set_value_at mid.entries i value) o (mid.entries ++ (key, value) ∷ [])
         → LeavesMemory eq mid last key → last.capacity ≡ stepped_capacity first last
     unfolding steps
@@ -69,7 +69,7 @@ module _ {K V : Type 0} where
         let stays = ap (λ m. m.capacity) (leaves.replaced (grind (arith, is_some-found (eq (key_of key)) (hash_of key) mid.entries, is))) in
         grind (arith, stepped_steps first mid, stepped_steps first last, length-set_value_at mid.entries i value)
 
-    -- one was refused
+    -- it was refused
     pub stepped_refused : last.entries ≡ mid.entries → StaysOrGrows 1 mid last → StaysOrGrows 1 (record last { capacity = stepped_capacity first last }) last
     stepped_refused same grows =
         let is : mid.capacity ≡ stepped_capacity first last = before ∙ (λ j. (push_all (pair_list first.entries first.capacity) (drop (length first.entries) (sym same j))).capacity) in

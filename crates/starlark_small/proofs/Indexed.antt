@@ -1,4 +1,4 @@
--- What an index says of a list, and how much room it has, as the list changes.
+-- The hash index and its room as the list changes.
 use Rattle.starlark_hash.proofs.Common.{take, drop, All-append, common_steps, ◌≡◌, ℕ, suc, ◌+◌, ◌-◌, ◌<◌, ◌≤◌, ◌^◌, List, [], ◌∷◌, ◌++◌, length, map, Option, Some, None, is_some, refl, sym, ap, subst, ◌∙◌, arith, IsPermutation, IfSome, remove, reverse, slice_get, range_with_len, option_map, length-map, length-reverse, length_push, map-append, length-remove, All-push, IsPermutation-reverse, IsPermutation-sym, All-permutation, length_permutation, none-some, same_Some, slice_get-map}
 use Rattle.std.proofs.lemmas.List.Elements.{All-take, All-drop}
 use Rattle.starlark_vecmap.proofs.Views.{map-remove, map-reverse}
@@ -17,7 +17,7 @@ pub is_some-map : {A B : Type 0} (f : A → B) (o : Option A) → is_some (optio
 is_some-map f o = grind (arith, common_steps)
 
 module _ {K V : Type 0} where
-  -- an index has as many hashes as the list has entries
+  -- a hash index has as many hashes as the list has entries
   pub indexed-at : (es : List (Entry K V)) (index : Option Hashes) → IsIndexed es index → IsIndexedAt (length es) index
   indexed-at es None short = short
   indexed-at es (Some h) index = ap length index.list ∙ length-map es (λ e. hash_under (entry_hash e))
@@ -25,7 +25,7 @@ module _ {K V : Type 0} where
   pub index-within : (es : List (Entry K V)) (i : ℕ) (index : Option Hashes) → i < length es → IsIndexed es index → IfSome index (λ h. i < length h.list)
   index-within es i index below holds = grind (arith, common_steps, indexed-at es index holds)
 
-  -- an entry goes last
+  -- an entry is appended
   pub hashes-push : (es : List (Entry K V)) (e : Entry K V) → hashes_of (es ++ e ∷ []) ≡ hashes_of es ++ hash_under (entry_hash e) ∷ []
   hashes-push es e = map-append (λ d. hash_under (entry_hash d)) es (e ∷ [])
 
@@ -37,7 +37,7 @@ module _ {K V : Type 0} where
     fits = All-push (λ d. d.0.hash.0 < 2 ^ 32) es e index.fits (subst (λ k. k.0 < 2 ^ 32) (sym under) fits);
   }
 
-  -- an entry is taken out
+  -- an entry is removed
   pub IsIndexed-forgotten : (es : List (Entry K V)) (i : ℕ) (index : Option Hashes) → i < length es → IsIndexed es index → IsIndexed (remove es i) (option_map (forgotten i) index)
   IsIndexed-forgotten es i None below short = omega (arith, length-remove es i below, short)
   IsIndexed-forgotten es i (Some h) below index = record {
@@ -45,7 +45,7 @@ module _ {K V : Type 0} where
     fits = let P : Entry K V → Type 0 = λ d. d.0.hash.0 < 2 ^ 32 in All-append P (take i es) (drop (suc i) es) (All-take P i es index.fits) (All-drop P (suc i) es index.fits);
   }
 
-  -- the order is turned round
+  -- the list is reversed
   pub IsIndexed-reversed : (es : List (Entry K V)) (index : Option Hashes) → IsIndexed es index → IsIndexed (reverse es) (option_map reversed index)
   IsIndexed-reversed es None short = omega (arith, length-reverse es, short)
   IsIndexed-reversed es (Some h) index = record {
@@ -53,19 +53,19 @@ module _ {K V : Type 0} where
     fits = All-permutation (λ e. e.0.hash.0 < 2 ^ 32) es (reverse es) (IsPermutation-reverse es) index.fits;
   }
 
-  -- every hash goes out, and those of another list come in
+  -- an empty hash index is filled from a list
   pub IsIndexed-filled : (es : List (Entry K V)) (old new : Option Hashes) → length es ≤ index_room 0 old → IsFilled es old new → IsIndexed es new
   IsIndexed-filled es None new short filled = rw filled.hashes short
   IsIndexed-filled es (Some h) new short filled = rw filled.hashes (record { list = refl; fits = filled.fits })
 
-  -- a list refills the index of another one that is as long
+  -- a hash index is emptied, and filled from a list that is no longer
   pub follows-refilled : (before after : EntryList K V) (old mid new : Option Hashes) → length after.entries ≤ length before.entries → IsIndexed before.entries old → mid ≡ option_map cleared old → IsFilled after.entries mid new
       → IsIndexed after.entries new × (length before.entries + index_room (length before.entries) old ≤ length after.entries + index_room (length after.entries) new) × (is_some new ≡ is_some old)
   follows-refilled before after old mid new shorter indexed emptied filled =
       let out : length before.entries + index_room (length before.entries) old ≤ index_room 0 mid = rw emptied (grind (arith, common_steps, indexed-at before.entries old indexed)) in
       (IsIndexed-filled after.entries mid new (omega (arith, shorter, out)) filled, grind (arith, common_steps, filled.hashes), grind (arith, common_steps, filled.hashes))
 
-  -- where the entries went, their hashes went
+  -- the hashes move as their entries do
   pub moves-hashes : (es : List (Entry K V)) (to : List ℕ) (after : List (Entry K V)) → Moves es to after → Moves (hashes_of es) to (hashes_of after)
   moves-hashes es to after moves =
       let f : Entry K V → ℕ = λ e. hash_under (entry_hash e) in
@@ -88,7 +88,7 @@ module _ {K V : Type 0} where
     fits = All-permutation (λ e. e.0.hash.0 < 2 ^ 32) es after (IsPermutation-sym after es (IsPermutation-from_order after to es moves.once moves.items)) index.fits;
   }
 
-  -- so there is room for a list that is no longer
+  -- an emptied hash index has room for a list that is no longer
   pub cleared-room : (es : List (Entry K V)) (n : ℕ) (old mid : Option Hashes) → n ≤ length es → IsIndexed es old → mid ≡ option_map cleared old → IfSome mid (λ h. (h.list ≡ []) × (n ≤ h.room))
   cleared-room es n old mid shorter indexed is = rw is (grind (arith, common_steps, indexed-at es old indexed))
 

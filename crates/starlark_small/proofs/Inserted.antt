@@ -1,4 +1,4 @@
--- A map after an insertion, written at the new index and read there.
+-- A map after an insertion, with its new value written and read.
 use Rattle.starlark_hash.proofs.Common.{common_steps, ◌≡◌, ℕ, ◌<◌, Bool, List, [], ◌∷◌, ◌++◌, length, slice_get, Some, None, is_some, ap, arith, refl, ◌||◌, nat_lt, option_map, length_push}
 use Rattle.starlark_small.proofs.CallerRemove.{last_of}
 use Rattle.starlark_hash.specs.declared.hashed.Hashed.{Hashed}
@@ -7,7 +7,7 @@ use Rattle.starlark_hash.specs.Lookup.{found}
 use Rattle.starlark_hash.specs.Entries.{Entry, pair_of, set_value_at, value_at}
 use Rattle.starlark_hash.proofs.EntryLemmas.{length-set_value_at}
 use Rattle.starlark_small.specs.Index.{unindexed}
-use Rattle.starlark_small.specs.Insert.{IsInserted, IsRefused, LeavesMemory}
+use Rattle.starlark_small.specs.Insert.{IsInserted, LeavesMemory}
 use Rattle.starlark_small.specs.Map.{Map}
 
 module _ {K V : Type 0} where
@@ -33,18 +33,13 @@ module _ {K V : Type 0} (old new : Map K V) (key : Hashed K) (value : V) (i : �
   pub inserted_shown : (k : K) (v : V) → option_map pair_of (slice_get new.entries i) ≡ Some (k, v) → (k ≡ key_of key) × (v ≡ value)
   inserted_shown k v e = (grind (arith, common_steps, put.entries, last_of old.entries (key, value)), grind (arith, common_steps, put.entries, last_of old.entries (key, value)))
 
--- what is left of the memory where nothing grew
+-- the memory of a map whose list did not grow
 module _ {K V : Type 0} (eq : K → K → Bool) (old : Map K V) (key : Hashed K) (short : old.indexed ≡ (old.indexed || nat_lt unindexed (length old.entries))) where
-  -- a key was there: its value was written
+  -- the key was there, and its value was written
   pub LeavesMemory-written : (i : ℕ) (value : V) → LeavesMemory eq old (with_value_at old i value) key
   LeavesMemory-written i value = grind (arith, length-set_value_at old.entries i value)
 
-  -- a new key was refused
-  pub LeavesMemory-refused : (new : Map K V) → found (eq (key_of key)) (hash_of key) old.entries ≡ None → old.room ≡ 0 → IsRefused old new → LeavesMemory eq old new key
-  LeavesMemory-refused new lacking full refused =
-      grind (arith, ap is_some lacking, refused.room, refused.capacity, refused.entries, refused.indexed)
-
--- what is left of the memory where a new key went in
+-- the memory of a map after a new key was appended
 module _ {K V : Type 0} (eq : K → K → Bool) (old : Map K V) (key : Hashed K) where
   pub LeavesMemory-inserted : (value : V) (new : Map K V) → found (eq (key_of key)) (hash_of key) old.entries ≡ None → IsInserted old new key value → LeavesMemory eq old new key
   LeavesMemory-inserted value new lacking put = grind (arith, ap is_some lacking, put.entries, put.spare, put.room, put.capacity, put.indexed, length_push old.entries (key, value))

@@ -1,4 +1,4 @@
--- Insertions one after the other, and how the room follows them.
+-- Insertions one after the other, and the room after them.
 use Rattle.starlark_hash.proofs.Common.{common_steps, ◌≡◌, ℕ, ◌+◌, ◌<◌, ◌≤◌, Bool, List, [], ◌∷◌, ◌++◌, length, map, Option, Some, refl, sym, ap, ◌∙◌, subst, arith, ◌||◌, is_some, nat_lt, IsSome, nat_tests, Yields, option_map_or, length_push}
 use Rattle.starlark_hash.specs.declared.hashed.Hashed.{Hashed}
 use Rattle.starlark_hash.specs.Entries.{Entry, match_of, set_value_at}
@@ -11,13 +11,13 @@ use Rattle.starlark_small.specs.Insert.{LeavesMemory}
 use Rattle.starlark_small.specs.Map.{Map, KeepsRoom}
 use Rattle.starlark_small.proofs.Growing.{stepped_none, stepped_inserted, stepped_refused}
 
--- one item more came
+-- one more item came
 pub yields_more : {S A : Type 0} (steps : S → Option A → S → Type 0) (s t u : S) (xs : List A) (x : A) → Yields steps s xs t → steps t (Some x) u → Yields steps s (xs ++ x ∷ []) u
 yields_more steps s t u [] x gave step = (u, subst (λ r. steps r (Some x) u) (sym gave) step, refl)
 yields_more steps s t u (y ∷ ys) x (j, first, rest) step = (j, first, yields_more steps j t u ys x rest step)
 
 module _ {K V : Type 0} (eq : K → K → Bool) where
-  -- one entry more was inserted
+  -- one more entry was inserted
   insert_all-push : {A : Type 0} (item : A → Entry K V) (es : List (Entry K V)) (xs : List A) (x : A)
       → insert_all eq es (map item (xs ++ x ∷ [])) ≡ insert_entry eq (insert_all eq es (map item xs)) (item x).0 (item x).1
   insert_all-push item es [] x = refl
@@ -35,7 +35,7 @@ module _ {K V : Type 0} (eq : K → K → Bool) where
 pub long_is_indexed : {A : Type 0} (index : Option A) (had : Bool) (len : ℕ) → is_some index ≡ had → (unindexed < len → IsSome index) → had ≡ (had || nat_lt unindexed len)
 long_is_indexed index had len same long = grind (arith, nat_tests, long)
 
--- a map once these items went in, of at most so many in all
+-- a map after the insertion of these items, of a bounded number in all
 pub record IsFilled {K V A : Type 0} (eq : K → K → Bool) (item : A → Entry K V) (all : ℕ) (first : Map K V) (seen : List A) (now : Map K V) : Type 0 where
   pub entries : now.entries ≡ insert_all eq first.entries (map item seen)
   pub room : KeepsRoom first now
@@ -45,7 +45,7 @@ pub record IsFilled {K V A : Type 0} (eq : K → K → Bool) (item : A → Entry
   pub indexed : now.indexed ≡ (first.indexed || nat_lt unindexed (length now.entries))
   pub spare : all ≤ first.room → (now.capacity ≡ first.capacity) × (now.indexed ≡ first.indexed)
 
--- a map where these items went in, and one more was refused
+-- a map after the insertion of these items and the refusal of one more
 pub record IsStopped {K V A : Type 0} (eq : K → K → Bool) (item : A → Entry K V) (all : ℕ) (first : Map K V) (seen : List A) (now : Map K V) : Type 0 where
   pub entries : now.entries ≡ insert_all eq first.entries (map item seen)
   pub room : KeepsRoom first now
@@ -62,7 +62,7 @@ filled_none first had = record { entries = refl; room = omega arith; added = ome
 -- a further item is tried
 module _ {K V A : Type 0} {eq : K → K → Bool} {item : A → Entry K V} {all : ℕ} {first : Map K V} {seen : List A} {mid : Map K V} (last : Map K V) (held : IsFilled eq item all first seen mid)
     {left after : ℕ} (counted : length seen + left ≤ all) (fewer : after < left) (x : A) (leaves : LeavesMemory eq mid last (item x).0) where
-  -- it went in
+  -- it was inserted
   pub filled_more : last.entries ≡ insert_entry eq mid.entries (item x).0 (item x).1 → IsFilled eq item all first (seen ++ x ∷ []) last
   filled_more put =
       let sizes = length_or eq mid.entries (item x).0 (item x).1 (match_of eq mid.entries (item x).0) last.entries put in
@@ -70,7 +70,7 @@ module _ {K V A : Type 0} {eq : K → K → Bool} {item : A → Entry K V} {all 
       let capacity = stepped_inserted first mid last held.longer held.capacity eq (item x).0 (item x).1 (match_of eq mid.entries (item x).0) refl put leaves in
       grind (arith, nat_tests, entries, capacity, sizes, length_push seen x, held.room, leaves.room, held.added, held.longer, held.indexed, leaves.indexed, held.spare, leaves.spare)
 
-  -- it was refused: the room is used up, so there was not room for all
+  -- it was refused: the room is used up, so there was no room for all
   pub filled_still : last.entries ≡ mid.entries → mid.room ≡ 0 → IsStopped eq item all first seen last
   filled_still same full =
       let as_long : length last.entries ≡ length mid.entries = ap length same in

@@ -1,4 +1,4 @@
--- The table and the cells of an index: what they keep, and as which hashes they are seen, after each call.
+-- The table and the cells of a hash index after each call: their invariant, and the hashes that a contract sees.
 use Rattle.starlark_hash.proofs.Common.{◌≡◌, ℕ, ◌+◌, ◌-◌, ◌<◌, ◌≤◌, ◌^◌, List, [], ◌∷◌, ◌++◌, length, map, get_or, take, Option, Some, None, refl, sym, ap, subst, ◌∙◌, arith, Bool, nat_eq, IsPermutation, filter, remove, reverse, slice_index, All, Contains, IsSome, is_some, set, length-append, length-map, length-reverse, length-take, length-remove, IsPermutation-map, IsPermutation-refl, IsPermutation-trans, length_permutation}
 use Rattle.std.proofs.Common.{option_map}
 use Rattle.std.proofs.lemmas.List.{length-set}
@@ -15,14 +15,14 @@ use Rattle.starlark_small.proofs.Slots.{sited-last, sited-lowered, sited-none, s
 pub length-hashes_in : (slots : List (Option (ℕ × ℕ))) (cells : List ℕ) → length (hashes_in slots cells) ≡ length cells
 length-hashes_in slots cells = length-map cells (λ s. hash_in (get_or slots s None))
 
--- the indices of a hash, as a table has them
+-- the indices under a hash, as the items of a table
 pub indices-moved : (hs : List ℕ) (t : Table ℕ) (hash : ℕ) → IsPermutation (numbered hs) (members t) → IsPermutation (indices_under hash hs) (map (λ p. (p.1, p.1)) (items_under hash t))
 indices-moved hs t hash bag =
     let q : ℕ × ℕ → Bool = λ m. nat_eq m.0 hash in
     subst (IsPermutation (indices_under hash hs)) (simp map-map at (ap (map {A = ℕ} {B = ℕ × ℕ} (λ i. (i, i))) (sym (items-items_under hash t))))
     (IsPermutation-map (λ m. (m.1, m.1)) (filter q (numbered hs)) (filter q (members t)) (IsPermutation-filter q (numbered hs) (members t) bag))
 
--- table and cells that keep these hashes, with this room
+-- table and cells meet the invariant, and a contract sees these hashes and this room
 pub record Keeps (hs : List ℕ) (free : ℕ) (t : Table ℕ) (cells : List ℕ) (memory : ℕ) : Type 0 where
   pub keeps : KeepsIndices t cells memory
   pub list : hashes_in t.slots cells ≡ hs
@@ -41,7 +41,7 @@ keeps_by hs room t cells memory bag sited long tight few narrow free =
     let back = hashes-back hs t bag cells long sited in
     record { keeps = record { bag = subst (λ l. IsPermutation (numbered l) (members t)) (sym back) bag; sited = sited; even = long ∙ sym (members-count hs t bag); tight = tight; some = few.0; few = few.1; narrow = narrow }; list = back; room = free }
 
--- what they are seen as
+-- what a contract sees of them
 abbrev pub view_of : Table ℕ → List ℕ → Hashes
 view_of t cells = record { list = hashes_in t.slots cells; room = t.room }
 
@@ -61,12 +61,12 @@ module _ (old : Table ℕ) (cells : List ℕ) (memory : ℕ) (k : KeepsIndices o
   pub indices-below : All (λ m. m.1 < length cells) (members old)
   indices-below = subst (λ n. All (λ m. m.1 < n) (members old)) (length-hashes_in old.slots cells) (members-below hs old k.bag)
 
-  -- each index stands in the slot that its cell names
+  -- each index is in the slot that its cell names
   pub stands-named : (i : ℕ) → i < length cells → IsSome (member_at old (get_or cells i 0))
   stands-named i inside =
       ap is_some (named-there cells old (get_or hs i 0) i k.sited (held hs old k.bag i (omega (arith, inside, length-hashes_in old.slots cells))))
 
-  -- an index went last
+  -- an index was appended
   pub keeps-noted : (new : Table ℕ) (after : List ℕ) (h x slot space : ℕ) → after ≡ cells ++ slot ∷ [] → space ≡ memory → x ≡ length cells → slot < length old.slots → new.slots ≡ set old.slots slot (Some (h, x)) → IsPermutation ((h, x) ∷ members old) (members new) → table_capacity new ≡ table_capacity old
       → 0 < old.room → Keeps (hs ++ h ∷ []) (old.room - 1) new after space
   keeps-noted new after h x slot space put more last within is added room some =
@@ -76,7 +76,7 @@ module _ (old : Table ℕ) (cells : List ℕ) (memory : ℕ) (k : KeepsIndices o
       (rw (put, is) (sited-put cells old.slots slot h x last within k.sited))
       (omega (arith, ap length put, length-append cells (slot ∷ []), length-append hs (h ∷ []), long)) (omega (arith, room, k.tight, more)) (numbered-alike (length new.slots) (length old.slots) (ap length is ∙ length-set old.slots slot (Some (h, x))) k.some k.few) (omega (arith, room, k.narrow)) (omega (arith, room, longer, some))
 
-  -- each index is another, and the cells are named anew
+  -- each index was replaced, and the cells were written anew
   module _ (name : ℕ → ℕ) (ks : List ℕ) (new : Table ℕ) (renames : RenamesEach name old new) (same : IsPermutation (numbered ks) (map (renaming name) (numbered hs))) (long : length ks ≡ length cells) where
     pub renamed-bag : IsPermutation (numbered ks) (members new)
     renamed-bag = bag-renamed name (numbered hs) ks old new k.bag same renames.slots
@@ -88,7 +88,7 @@ module _ (old : Table ℕ) (cells : List ℕ) (memory : ℕ) (k : KeepsIndices o
         keeps_by ks old.room new after space renamed-bag sited (even ∙ sym long) (omega (arith, count, was, long, renames.room, k.tight, more))
         (numbered-alike (length new.slots) (length old.slots) (ap length renames.slots ∙ length-map old.slots (option_map (renaming name))) k.some k.few) (omega (arith, count, was, long, renames.room, k.narrow)) renames.room
 
-  -- each hash went where a list says
+  -- each hash was moved as a list says
   module _ (to ks : List ℕ) (moves : Moves hs to ks) where
     pub moved-to : length to ≡ length cells
     moved-to = (length-moved hs to ks moves).0 ∙ length-hashes_in old.slots cells
@@ -123,7 +123,7 @@ module _ (old : Table ℕ) (cells : List ℕ) (memory : ℕ) (k : KeepsIndices o
     pub keeps-grown : (after : List ℕ) (space : ℕ) → IsSited after new.slots → length after ≡ length cells → space ≡ table_capacity new → AreNumbered (length new.slots) → table_capacity new ≤ 2 ^ 32 → Keeps hs new.room new after space
     keeps-grown after space sited even tight few narrow = keeps_by hs new.room new after space grown-bag sited (even ∙ sym (length-hashes_in old.slots cells)) tight few narrow refl
 
-  -- the order is turned round
+  -- the order was reversed
   pub keeps-reversed : (n : ℕ) (new : Table ℕ) (space : ℕ) → n ≡ length cells → RenamesEach (λ i. n - 1 - i) old new → space ≡ memory → Keeps (reverse hs) old.room new (reverse cells) space
   keeps-reversed n new space is renames more =
       let long = length-hashes_in old.slots cells in
@@ -131,7 +131,7 @@ module _ (old : Table ℕ) (cells : List ℕ) (memory : ℕ) (k : KeepsIndices o
       keeps-renamed (λ i. n - 1 - i) (reverse hs) new renames bag (length-reverse hs ∙ long) (reverse cells) space
       (rw (renames.slots, is) (sited-reversed cells old.slots k.sited)) (length-reverse cells) more
 
-  -- an index was taken out, and those above it have not gone down
+  -- an index was removed, and those above it are not yet decremented
   module _ (i : ℕ) (inside : i < length cells) (mid : Table ℕ) (after : List ℕ) (even : length after ≡ length cells) (sited : IsSited after mid.slots) (taken : (h : ℕ) → Contains (members old) (h, i) → IsPermutation (members old) ((h, i) ∷ members mid))
       (slots : length mid.slots ≡ length old.slots) (room : table_capacity mid ≡ table_capacity old) where
     within : i < length hs
@@ -146,7 +146,7 @@ module _ (old : Table ℕ) (cells : List ℕ) (memory : ℕ) (k : KeepsIndices o
     pub stands-but : StandsBut i after mid.slots
     stands-but = record { there = λ j lt other. (get_or hs j 0, left-there hs old k.bag i within mid apart after sited j (omega (arith, lt, even, length-hashes_in old.slots cells)) other) }
 
-    -- they have
+    -- the indices above it are decremented
     pub keeps-forgotten : (new : Table ℕ) (space : ℕ) → RenamesEach (lowered i) mid new → space ≡ memory → Keeps (remove hs i) (old.room + 1) new (remove after i) space
     keeps-forgotten new space renames more =
         let ks = remove hs i in
@@ -159,7 +159,7 @@ module _ (old : Table ℕ) (cells : List ℕ) (memory : ℕ) (k : KeepsIndices o
         (numbered-alike (length new.slots) (length old.slots) (ap length renames.slots ∙ length-map mid.slots (option_map (renaming (lowered i))) ∙ slots) k.some k.few) (omega (arith, count, renames.room, room, k.narrow))
         (omega (arith, renames.room, room, length_permutation (members old) _ apart))
 
-    -- there was none above it
+    -- there was no index above it
     pub keeps-forgotten_last : (space : ℕ) → i + 1 ≡ length cells → space ≡ memory → Keeps (remove hs i) (old.room + 1) mid (take i after) space
     keeps-forgotten_last space end more =
         let ks = remove hs i in

@@ -1,4 +1,4 @@
--- What a walk that writes the values of a map keeps.
+-- What an iterator that writes the values of a map leaves.
 use Rattle.starlark_hash.proofs.Common.{Bool}
 use Rattle.starlark_vecmap.proofs.WrittenValues.{keys-with_values, length-with_values}
 use Rattle.starlark_small.specs.Lend.{KeepsAllButValues}

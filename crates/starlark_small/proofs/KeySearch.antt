@@ -1,4 +1,4 @@
--- The indices of a hash, as the keys that stand under it.
+-- A search of the indices under a hash as a search of the keys under it.
 use Rattle.starlark_hash.proofs.Common.{common_steps, ◌≡◌, ℕ, suc, ◌+◌, ◌<◌, ◌^◌, Bool, List, [], ◌∷◌, ◌++◌, length, get_or, map, Option, Some, None, refl, sym, ap, subst, ◌∙◌, arith, IsPermutation, nat_eq, filter, slice_get, Bor, Mut, CalledAt, TakesAt, All, Contains, enumerate_from, nat_tests, length-append, length-map, All-contains, All-filter, All-map, IsPermutation-refl, length_permutation, get_or_from_slice_get, slice_get-map, slice_get-get_or, slice_get_within, same_Some}
 use Rattle.std.proofs.lemmas.List.{nil_from_length}
 use Rattle.starlark_hash.specs.HashValue.{promoted}
@@ -11,7 +11,7 @@ use Rattle.starlark_small.specs.Index.{hashes_of}
 use Rattle.starlark_small.proofs.Numbered.{below-all}
 use Rattle.starlark_small.proofs.Transport.{can_transport, transported}
 
--- the indices of a hash are within the list
+-- the indices under a hash are below the length
 pub indices-within : (hash : ℕ) (hs : List ℕ) (p : ℕ × ℕ) → Contains (indices_under hash hs) p → p.1 < length hs
 indices-within hash hs p there =
     All-contains (λ p. p.1 < length hs) (indices_under hash hs) p
@@ -46,7 +46,7 @@ module _ {C F K V : Type 0} (g : Mut F (Bor K × Unit {0}) Bool) (w : Mut C (Bor
     keys-are : keys_under hash es ≡ map (keyed look) items
     keys-are = rw same (keys-numbered hash (λ i. get_or es i d) 0 es small fits (λ k e at. ap (λ i. get_or es i d) {x = 0 + k} {y = k} (omega arith) ∙ get_or_from_slice_get es k e d at))
 
-  -- so where the keys may be searched the indices may
+  -- if the keys may be searched, the indices may
   pub can_in : (fs : List (Entry K V)) → fs ≡ es → ((s : C) (i : ℕ) → Sees s → (e : Entry K V) → slice_get es i ≡ Some e → TakesAt g (inner s) (entry_key e) → TakesAt w s i) → CanSearch g (keys_under hash es) (inner s) → CanSearch w items s
   can_in [] is pass may =
       let none : length items ≡ 0 = ap (λ l. length (indices_under (promoted hash.0) l)) (same ∙ ap hashes_of (sym is)) in
@@ -55,7 +55,7 @@ module _ {C F K V : Type 0} (g : Mut F (Bor K × Unit {0}) Bool) (w : Mut C (Bor
       can_transport w g inner Sees (keyed (look d)) items (λ p among s b t sees called. let r = relate s p.1 b t sees called in (r.0, r.1 (look d p.1) (there d p among))) (keys_under hash es) s
       (subst (IsPermutation (keys_under hash es)) (keys-are d) (IsPermutation-refl (keys_under hash es))) (λ p among s sees takes. pass s p.1 sees (look d p.1) (there d p among) takes) sees may
 
-  -- and what is found among the indices is found among the keys
+  -- what is found among the indices is found among the keys
   pub found_in : (fs : List (Entry K V)) → fs ≡ es → (last : C) (answer : Option ℕ) → Searches w items s answer last → Searches g (keys_under hash es) (inner s) answer (inner last)
   found_in [] is last answer search =
       let none = nil_from_length search.order (length_permutation items search.order search.rearranged ∙ ap (λ l. length (indices_under (promoted hash.0) l)) (same ∙ ap hashes_of (sym is))) in
@@ -65,12 +65,12 @@ module _ {C F K V : Type 0} (g : Mut F (Bor K × Unit {0}) Bool) (w : Mut C (Bor
       transported w g inner Sees (keyed (look d)) items (λ p among s b t sees called. let r = relate s p.1 b t sees called in (r.0, r.1 (look d p.1) (there d p among))) (λ o. o) refl (λ p among. refl) (keys_under hash es) s last answer
       (subst (IsPermutation (keys_under hash es)) (keys-are d) (IsPermutation-refl (keys_under hash es))) sees search
 
--- the pair of an entry stands where the entry does
+-- the pair of an entry is at the index of the entry
 pub pair_there : {K V : Type 0} (es : List (Entry K V)) (pairs : List (K × V)) (x i : ℕ) (e : Entry K V) → pairs ≡ map pair_of es → i ≡ x
     → slice_get es x ≡ Some e → slice_get pairs i ≡ Some (pair_of e)
 pair_there es pairs x i e sees shows at = grind (arith, common_steps, slice_get-map pair_of es i)
 
--- where the closure shows an index that is there, it may be called
+-- the closure may be called on an index that is there
 pub taken : {F K V : Type 0} (g : Mut F (Bor K × Unit {0}) Bool) (es : List (Entry K V)) (pairs : List (K × V)) (x i : ℕ) (f : F) → pairs ≡ map pair_of es → i ≡ x
     → (e : Entry K V) → slice_get es x ≡ Some e → TakesAt g f (entry_key e)
     → (i < length pairs) × ((p : K × V) → slice_get pairs i ≡ Some p → TakesAt g f p.0)

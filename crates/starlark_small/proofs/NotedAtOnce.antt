@@ -1,4 +1,4 @@
--- A hash that a look at the index shows to be new: no entry is under it, and one goes last without growth.
+-- A hash that the first group of the hash index shows to be new: no entry has it, and its entry is appended without growth.
 use Rattle.starlark_hash.proofs.Common.{common_steps, ◌≡◌, ◌≢◌, ℕ, ◌-◌, Bool, [], ◌∷◌, ◌++◌, length, Option, Some, None, refl, sym, subst, arith, IsEquivalence, nat_tests, get_or-map, length-map, length_push, All}
 use Rattle.starlark_small.proofs.CallerLookup.{none_among, none_found}
 use Rattle.starlark_hash.specs.HashValue.{hash_of, key_of}
@@ -14,7 +14,7 @@ use Rattle.starlark_small.specs.Map.{Map}
 use Rattle.starlark_small.proofs.Indexed.{IsIndexed-noted}
 use Rattle.starlark_vecmap.specs.EntryList.{EntryList, with_entries}
 
--- a new key whose hash was noted at once, with room in the list
+-- a new key whose hash was appended at once, with room in the list
 module _ {K V : Type 0} (eq : K → K → Bool) (laws : IsEquivalence eq) (list new : EntryList K V) (before after : Option Hashes) (key : Hashed K) (value : V) (sound : IsSound eq list.entries before) (noting : IsNotedIn (hash_of key) (list.capacity - length list.entries) before after)
     (is : new ≡ with_entries list (list.entries ++ (key, value) ∷ [])) where
   index : IsIndexed list.entries (Some noting.hashes)

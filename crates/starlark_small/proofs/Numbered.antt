@@ -35,7 +35,7 @@ at-numbered hs k d below = grind (arith, get_or-numbered 0 k hs d)
 pub below-all : (hs : List ℕ) → All (λ m. m.1 < length hs) (numbered hs)
 below-all hs = λ k d lt. omega (arith, length-numbered 0 hs, ap (λ m. m.1) (at-numbered hs k d (omega (arith, length-numbered 0 hs))))
 
--- all behind an index go down
+-- all behind an index are decremented
 sunk : (last n : ℕ) (hs : List ℕ) → last ≤ n → map (renaming (lowered last)) (numbered_from (n + 1) hs) ≡ numbered_from n hs
 sunk last n [] le = refl
 sunk last n (h ∷ hs) le = grind (arith, nat_tests, sunk last (n + 1) hs)
@@ -89,7 +89,7 @@ distinct hs = IsDistinct-from_apart same_index (numbered hs) (λ i j d before be
 behind : (m : ℕ × ℕ) (ms : List (ℕ × ℕ)) (n : ℕ × ℕ) → IsDistinct same_index (m ∷ ms) → Contains ms n → nat_eq m.1 n.1 ≡ false
 behind m ms n distinct (k, below, is) = grind (arith, nat_tests, apart_from_distinct same_index (m ∷ ms) 0 (suc k) n distinct (omega arith) (omega arith))
 
--- the members of two slots are apart
+-- the members of two slots have different indices
 apart : (slots : List (Option (ℕ × ℕ))) (s u h k x : ℕ) → IsDistinct same_index (filled slots) → s < u → get_or slots s None ≡ Some (h, x) → get_or slots u None ≡ Some (k, x) → ⊥
 apart [] s u h k x once below is also = cc
 apart (None ∷ slots) zero u h k x once below is also = cc
@@ -105,7 +105,7 @@ in_slots (None ∷ slots) m there = let r = in_slots slots m there in (suc r.0, 
 in_slots (Some x ∷ slots) m (zero, below, is) = (0, ap Some is)
 in_slots (Some x ∷ slots) m (suc k, below, is) = let r = in_slots slots m (k, omega arith, is) in (suc r.0, r.1)
 
--- what stands in the slot that the cell of an index names
+-- the member in the slot that the cell of an index names
 pub named-there : (cells : List ℕ) (t : Table ℕ) (h x : ℕ) → IsSited cells t.slots → Contains (members t) (h, x) → member_at t (get_or cells x 0) ≡ Some (h, x)
 named-there cells t h x sited there =
     let it = in_slots t.slots (h, x) there in ap (member_at t) (sited.named it.0 h x it.1) ∙ it.1
@@ -133,7 +133,7 @@ module _ (hs : List ℕ) (t : Table ℕ) (bag : IsPermutation (numbered hs) (mem
       let count = length-map cells (λ s. hash_in (get_or t.slots s None)) in
       ext_get_or 0 (hashes_in t.slots cells) hs (count ∙ long) (λ i lt. grind (arith, get_or-map (λ s. hash_in (get_or t.slots s None)) cells i 0 0, named-there cells t (get_or hs i 0) i sited, held i))
 
-  -- what is left once an index was taken out
+  -- what is left after an index was removed
   module _ (k : ℕ) (below : k < length hs) (mid : Table ℕ) (taken : IsPermutation (members t) ((get_or hs k 0, k) ∷ members mid)) where
     pub left-bag : IsPermutation (remove (numbered hs) k) (members mid)
     left-bag =
@@ -154,7 +154,7 @@ module _ (hs : List ℕ) (t : Table ℕ) (bag : IsPermutation (numbered hs) (mem
         named-there cells mid (get_or hs i 0) i sited
         (Contains-tail m (members mid) n (λ same. apart (sym (ap (λ m. m.1) same))) (Contains-permutation (members t) (m ∷ members mid) n taken (held i inside)))
 
-  -- no hash of the list is one under which nothing stands
+  -- a hash under which the table has no member is not in the list
   pub none-under : (hash : ℕ) → items_under hash t ≡ [] → All (λ h. h ≢ hash) hs
   none-under hash none k d below same =
       let q : ℕ × ℕ → Bool = λ m. nat_eq m.0 hash in
@@ -164,7 +164,7 @@ module _ (hs : List ℕ) (t : Table ℕ) (bag : IsPermutation (numbered hs) (mem
       let nothing : length (filter q (members t)) ≡ 0 = grind (arith, length-map, ap length (items-items_under hash t), ap length none) in
       omega (arith, nothing, length-filter q (members t), rw passes at (get_or-le-sum_by (λ m. cond (q m) 1 0) (members t) there.0 m there.1))
 
--- the members once each index is another
+-- the members after each index was replaced
 pub filled-renamed : (name : ℕ → ℕ) (slots : List (Option (ℕ × ℕ))) → filled (renamed name slots) ≡ map (renaming name) (filled slots)
 filled-renamed name [] = refl
 filled-renamed name (None ∷ slots) = filled-renamed name slots
@@ -175,13 +175,13 @@ pub bag-renamed : (name : ℕ → ℕ) (hs : List (ℕ × ℕ)) (ks : List ℕ) 
 bag-renamed name hs ks old new bag same is =
     rw (is, filled-renamed name old.slots) (IsPermutation-trans (numbered ks) (map (renaming name) hs) (map (renaming name) (members old)) same (IsPermutation-map (renaming name) hs (members old) bag))
 
--- one hash more
+-- one more hash
 pub bag-noted : (hs : List ℕ) (h x : ℕ) (old new : Table ℕ) → x ≡ length hs → IsPermutation (numbered hs) (members old) → IsPermutation ((h, x) ∷ members old) (members new) → IsPermutation (numbered (hs ++ h ∷ [])) (members new)
 bag-noted hs h x old new last bag added =
     let m : ℕ × ℕ = (h, x) in
     let is : numbered (hs ++ h ∷ []) ≡ numbered hs ++ m ∷ [] = grind (arith, numbered-append 0 hs (h ∷ [])) in
     rw is (IsPermutation-trans _ _ _ (IsPermutation-trans _ _ _ (IsPermutation-to_front (numbered hs) m) (IsPermutation-cons m (numbered hs) (members old) bag)) added)
 
--- one item more
+-- one more item
 pub take-more : {X : Type 0} (i : ℕ) (xs : List X) (x : X) → slice_get xs i ≡ Some x → take (i + 1) xs ≡ take i xs ++ x ∷ []
 take-more i xs x at = take_more xs i x (slice_get_within xs i x at) ∙ ap (λ z. take i xs ++ z ∷ []) (get_or_from_slice_get xs i x x at)

@@ -1,10 +1,10 @@
--- What a pass over a table makes of its indices.
+-- Passes over a table that replace its indices.
 use Rattle.starlark_hash.proofs.Common.{common_steps, ◌≡◌, ℕ, ◌<◌, List, [], ◌∷◌, length, get_or, Option, Some, None, sym, ap, subst, ◌∙◌, arith, Bor, Mut, Takes, Called, CalledAt, All, FoldsTo, get_or-append_seam, length-append}
 use Rattle.starlark_table.specs.Walk.{CanReplace, ReplacesEach}
 use Rattle.starlark_small.specs.Slots.{renamed}
 
 module _ {F : Type 0} (g : Mut F (Bor ℕ × Unit {0}) ℕ) where
-  -- a pass whose calls answer by a function puts what it gives for the index of each member
+  -- a pass whose calls return by a function replaces the index of each member by its value
   pub replaced-each : (name : ℕ → ℕ) (f end : F) (old new : List (Option (ℕ × ℕ))) → ((x : Bor ℕ) (y : ℕ) (next : F) → Called g f (x, tt) y next → (y ≡ name x.now) × (next ≡ f))
       → ReplacesEach g f old new end → new ≡ renamed name old
   replaced-each name f end [] new says (is, same) = is
@@ -20,7 +20,7 @@ module _ {F : Type 0} (g : Mut F (Bor ℕ × Unit {0}) ℕ) where
         let same = stays called.shown y next called.called in
         stays_all before later (subst (λ k. FoldsTo (λ k x next. (y : ℕ) × CalledAt g k x y next) k before later) same rest)
 
-    -- a closure that may be called below a bound, and stays as it is, may be called at indices below it in turn
+    -- a closure that may be called below a bound, and that no call changes, may be called on indices below it in turn
     pub can_replace : (n : ℕ) (xs : List ℕ) → ((x : Bor ℕ) → x.now < n → Takes g f (x, tt)) → All (λ x. x < n) xs → CanReplace g xs f
     can_replace n xs takes all = record {
       at = λ before x after later is told y shows.

@@ -1,4 +1,4 @@
--- What a closure keeps of a list of entries.
+-- Lists of entries after `retain`.
 use Rattle.starlark_hash.proofs.Common.{common_steps, ◌≡◌, suc, ◌≤◌, Bool, true, false, ◌&&◌, List, [], ◌∷◌, length, sym, ap, ◌∙◌, subst, arith, nat_eq, filter, if◌then◌else◌, All, Bor, MutBor, Mut, All-cons, All-head, All-tail}
 use Rattle.std.proofs.lemmas.List.Kept.{AllPairs-cons}
 use Rattle.starlark_hash.specs.declared.hashed.Hashed.{Hashed}
@@ -18,7 +18,7 @@ module _ {F K V : Type 0} (g : Mut F (Bor K × (MutBor V × Unit {0})) (Bool × 
       rw is (All-cons (λ x. P x.0) d rest here (all_retained P f' es rest others (All-tail (λ x. P x.0) e es all)))
   all_retained P f (e ∷ es) kept (false, d, f', rest, called, others, is) all = rw is (all_retained P f' es rest others (All-tail (λ x. P x.0) e es all))
 
-  -- a single list stays so
+  -- a list without equal entries has none afterwards
   pub IsSingle-retained : (eq : K → K → Bool) (f : F) (es kept : List (Entry K V)) → Retains (CalledAtEntry g) f es kept → IsSingle eq es → IsSingle eq kept
   IsSingle-retained eq f [] kept none single = subst (λ l. IsSingle eq l) (sym none) single
   IsSingle-retained eq f (e ∷ es) kept (true, d, f', rest, called, others, is) single =
@@ -29,7 +29,7 @@ module _ {F K V : Type 0} (g : Mut F (Bor K × (MutBor V × Unit {0})) (Bool × 
   IsSingle-retained eq f (e ∷ es) kept (false, d, f', rest, called, others, is) single =
       rw is (IsSingle-retained eq f' es rest others (λ i j x before below. single (suc i) (suc j) x (omega arith) (omega arith)))
 
-  -- where it answers as a test of the entry and leaves the value, it filters the list
+  -- a closure that tests the entry and leaves the value filters the list
   pub filtered : (test : Entry K V → Bool) → ((f : F) (e : Entry K V) (keeps : Bool) (d : Entry K V) (left : F) → CalledAtEntry g f e keeps d left → (keeps ≡ test e) × (d ≡ e))
       → (f : F) (es kept : List (Entry K V)) → Retains (CalledAtEntry g) f es kept → kept ≡ filter test es
   filtered test says f [] kept none = none
@@ -37,7 +37,7 @@ module _ {F K V : Type 0} (g : Mut F (Bor K × (MutBor V × Unit {0})) (Bool × 
       let s = says f e keeps d f' called in
       is ∙ (λ i. if s.0 i then s.1 i ∷ rest else rest) ∙ ap (λ l. if test e then e ∷ l else l) (filtered test says f' es rest others)
 
-  -- the same, where each call leaves the closure as it was
+  -- a closure that does so in its first state, which no call changes, filters the list
   pub tested : (test : Entry K V → Bool) (f : F) → ((e : Entry K V) (keeps : Bool) (d : Entry K V) (left : F) → CalledAtEntry g f e keeps d left → (keeps ≡ test e) × (d ≡ e) × (left ≡ f))
       → (f' : F) → f' ≡ f → (es kept : List (Entry K V)) → Retains (CalledAtEntry g) f' es kept → kept ≡ filter test es
   tested test f says f' same [] kept none = none

@@ -35,7 +35,7 @@ module _ {K V : Type 0} (eq : K → K → Bool) (E : V → V → Bool) where
   agree-values : (ds es : List (Entry K V)) (q : Hashed K) → agree_at eq E ds es q ≡ option_eq E (lookup (alike eq q) ds) (lookup (alike eq q) es)
   agree-values ds es q = λ i. option_eq E (value_at-lookup eq ds q i) (value_at-lookup eq es q i)
 
-  -- the values of an own key agree as its own value and what was found
+  -- the two lists agree at the key of an entry of `ds` exactly if its value equals what `es` finds at that key
   pub agree-found : IsEquivalence eq → (ds es : List (Entry K V)) (i : ℕ) (e : Entry K V) → slice_get ds i ≡ Some e → IsSingle eq ds → (other : Option V) (agree answer : Bool)
       → other ≡ found (eq (key_of e.0)) (hash_of e.0) es → agree ≡ option_eq E (Some e.1) other → agree ≡ answer → agree_at eq E ds es e.0 ≡ answer
   agree-found o ds es i e at single other agree answer theirs is answers =

@@ -1,4 +1,4 @@
--- The slot of each index: what the cells say as indices are put in, move, go down and are taken out.
+-- The cells as indices are appended, move, are decremented and are removed.
 use Rattle.std.proofs.lemmas.List.{ext_get_or, get_or-reverse}
 use Rattle.std.proofs.lemmas.Grind.{get_or_default_zero}
 use Rattle.starlark_hash.proofs.Common.{option_map, common_steps, ◌≡◌, ◌≢◌, ℕ, ◌+◌, ◌-◌, ◌<◌, ◌≤◌, List, [], ◌∷◌, ◌++◌, length, get_or, take, Option, Some, None, IsSome, sym, ap, ◌∙◌, arith, if◌then◌else◌, nat_lt, remove, reverse, All, set, get_or-append_seam, nat_tests, length-reverse, length-take, get_or-take, length-remove, All-contains, none-some, same_Some}
@@ -8,11 +8,11 @@ use Rattle.starlark_table.specs.Table.{Table, members, member_at, with_item}
 use Rattle.starlark_table.proofs.TableLemmas.{members-member_at}
 use Rattle.starlark_small.specs.Slots.{IsSited, StandsBut, StandsOnce, lowered, renamed, renaming}
 
--- slots that a member each may stand in: its hash, and its index
+-- slots, each empty or with a member: its hash, and its index
 abbrev Slots : Type 0
 Slots = List (Option (ℕ × ℕ))
 
--- how far the index of the member in a slot goes
+-- a bound of the index of the member in a slot
 below-at : (n : ℕ) (t : Table ℕ) → All (λ m. m.1 < n) (members t) → (s h x : ℕ) → member_at t s ≡ Some (h, x) → x < n
 below-at n t below s h x is = All-contains (λ m. m.1 < n) (members t) (h, x) below (members-member_at t s (h, x) is)
 
@@ -34,7 +34,7 @@ sited-moved cells slots from to h x can sited = record {
   named = λ t g y is. grind (arith, common_steps, can.there, can.within, sited.within from h x, sited.named t g y, sited.named from h x);
 }
 
--- ---- the next index is put in
+-- ---- the next index is appended
 pub sited-put : (cells : List ℕ) (slots : Slots) (slot h x : ℕ) → x ≡ length cells → slot < length slots → IsSited cells slots
     → IsSited (cells ++ slot ∷ []) (set slots slot (Some (h, x)))
 sited-put cells slots slot h x last below sited = record {
@@ -48,7 +48,7 @@ sited-none t none =
     let none_below : All (λ m. m.1 < 0) (members t) = rw none (λ k d lt. absurd (omega (arith, lt))) in grind (arith, below-at 0 t none_below)
 
 -- ---- the slots are named in turn
--- the cells name the slot of each index that stands before slot i
+-- the cells name the slot of each index in a slot before i
 pub record AreNamed (i : ℕ) (cells : List ℕ) (slots : Slots) : Type 0 where
   pub before : (s h x : ℕ) → s < i → get_or slots s None ≡ Some (h, x) → get_or cells x 0 ≡ s
 
@@ -62,7 +62,7 @@ sited-named i cells t rest all named = grind (arith, common_steps, below-at (len
 read_map : (f : ℕ → ℕ) (slots : Slots) (s : ℕ) → get_or (renamed f slots) s None ≡ option_map (renaming f) (get_or slots s None)
 read_map f slots s = grind (arith, common_steps)
 
--- each index is another, and so are the cells
+-- each index is replaced, and so are the cells
 sited-renamed : (f : ℕ → ℕ) (cells after : List ℕ) (slots : Slots) → IsSited cells slots
     → ((s h y : ℕ) → get_or slots s None ≡ Some (h, y) → y < length cells → (f y < length after) × (get_or after (f y) 0 ≡ get_or cells y 0)) → IsSited after (renamed f slots)
 sited-renamed f cells after slots sited goes = record {
@@ -80,8 +80,8 @@ pub sited-reversed : (cells : List ℕ) (slots : Slots) → IsSited cells slots 
 sited-reversed cells slots sited = sited-renamed (λ i. length cells - 1 - i) cells (reverse cells) slots sited (λ s h y is lt.
     (omega (arith, lt, length-reverse cells), grind (arith, get_or-reverse cells (length cells - 1 - y) 0)))
 
--- ---- each index above one goes down, slot by slot
--- the index one down, if it is above one index and below another
+-- ---- each index above one is decremented, slot by slot
+-- the index, decremented if it is above one index and below another
 abbrev pub lowered_to : ℕ → ℕ → ℕ → ℕ
 lowered_to i j x = if nat_lt x j then lowered i x else x
 
@@ -92,7 +92,7 @@ module _ (i : ℕ) (cells : List ℕ) (t : Table ℕ) (sited : IsSited cells t.s
   pub lowered-all : (j : ℕ) → length cells ≤ j → renamed (lowered_to i j) t.slots ≡ renamed (lowered i) t.slots
   lowered-all j all = ext_get_or None (renamed (lowered_to i j) t.slots) (renamed (lowered i) t.slots) (grind (arith, common_steps)) (λ s lt. grind (arith, common_steps, nat_tests, read_map (lowered_to i j) t.slots s, read_map (lowered i) t.slots s, sited.within s))
 
-  -- an index is the next to go down, in the slot that its cell names
+  -- the next index to be decremented is in the slot that its cell names
   module _ (stands : StandsBut i cells t.slots) (j slot : ℕ) (above : i < j) (below : j < length cells) (read : slot ≡ get_or cells j slot) (now : Table ℕ) (held : now.slots ≡ renamed (lowered_to i j) t.slots) where
     there : (h : ℕ) × (member_at t slot ≡ Some (h, j))
     there = let it = stands.there j below (λ same. omega (arith, same)) in (it.0, ap (member_at t) (read ∙ get_or_default_zero cells j slot below) ∙ it.1)

@@ -15,7 +15,7 @@ module _ {C F N M X Y : Type 0} (w : Mut C (Bor X × Unit {0}) Bool) (g : Mut F 
   keys-moved keys order same moves = IsPermutation-trans keys (map key items) (map key order) same (IsPermutation-map key items order moves)
 
   module _ (relate : (p : N × X) → Contains items p → (s : C) (b : Bool) (t : C) → Sees s → CalledAt w s p.1 b t → Sees t × CalledAt g (inner s) (key p).1 b (inner t)) where
-    -- what w refuses, g does
+    -- what w refuses, g refuses
     refusals : (ps : List (N × X)) (s later : C) → Among ps → Refuses w s ps later → Sees s → Sees later × Refuses g (inner s) (map key ps) (inner later)
     refusals [] s later among folds sees = (subst Sees folds sees, ap inner folds)
     refusals (p ∷ ps) s later among (t, called, folds) sees =
@@ -32,7 +32,7 @@ module _ {C F N M X Y : Type 0} (w : Mut C (Bor X × Unit {0}) Bool) (g : Mut F 
         let next = relate p (among p (0, omega arith, refl)) s false t sees called in
         (false, inner t, next.1, asks name none named ps t last answer (λ q there. among q (Contains-append_right (p ∷ []) ps q there)) rest next.0)
 
-    -- so w may search where g may
+    -- w may search if g may
     pub can_transport : (keys : List (M × Y)) (s : C) → IsPermutation keys (map key items) → ((p : N × X) → Contains items p → (s : C) → Sees s → TakesAt g (inner s) (key p).1 → TakesAt w s p.1)
         → Sees s → CanSearch g keys (inner s) → CanSearch w items s
     can_transport keys s same pass sees may = record {
@@ -43,7 +43,7 @@ module _ {C F N M X Y : Type 0} (w : Mut C (Bor X × Unit {0}) Bool) (g : Mut F 
           pass p (among p (Contains-append_right before (p ∷ after) p (0, omega arith, refl))) later left.0 (may.at (map key before) (key p) (map key after) (inner later) moved left.1);
     }
 
-    -- and what w finds, g does
+    -- what w finds, g finds
     pub transported : (name : Option N → Option M) → name None ≡ None → ((p : N × X) → Contains items p → name (Some p.0) ≡ Some (key p).0) → (keys : List (M × Y)) (s last : C) (answer : Option N) → IsPermutation keys (map key items)
         → Sees s → Searches w items s answer last → Searches g keys (inner s) (name answer) (inner last)
     transported name none named keys s last answer same sees search = record {

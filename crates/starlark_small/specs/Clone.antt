@@ -1,4 +1,4 @@
--- A clone of a `SmallMap`. Sets and ordered types share these words.
+-- A clone of a `SmallMap`. Sets and ordered types cite these definitions too.
 use Rattle.std.specs.Prelude.{◌≡◌, Bool, IfOk, IsOk, IsTrue, Result, is_some, length, nat_lt}
 use Rattle.std.specs.Hash.{HashWrites}
 use Rattle.std.specs.List.{AllZip}
@@ -9,8 +9,8 @@ use Rattle.starlark_small.specs.Lookup.{AreOwn}
 use Rattle.starlark_small.specs.Index.{unindexed}
 use Rattle.starlark_small.specs.Map.{Map}
 
--- the new map has clones of the old one's entries under the same hashes, in their order; its capacity is their number, and it has
--- an index only if so many need one
+-- new has clones of the entries of old under the same hashes, in their order. Its capacity is their number, and it has a hash index
+-- only if this many entries need one
 pub record IsCloneOf {K V : Type 0} (eq : K → K → Bool) (key : K → K → Type 0) (value : V → V → Type 0) (old new : Map K V) : Type 0 where
   pub entries : AllZip (IsEntryClone key value) old.entries new.entries
   pub same : IsLawfulClone key → IsLawfulClone value → new.entries ≡ old.entries

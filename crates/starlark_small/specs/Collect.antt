@@ -1,4 +1,4 @@
--- Maps of an iterator's items, and maps that such items went into. Sets, ordered and sorted types share these words.
+-- Maps made of an iterator's items, or extended by them. Sets, ordered and sorted types cite these definitions too.
 use Rattle.std.specs.Prelude.{◌≡◌, ◌≤◌, ◌+◌, ℕ, List, [], ◌∷◌, ◌++◌, Bool, true, IfSome, IsSome, Option, None, Result, MatchResult, IsOk, OnErr, ◌||◌, nat_lt, length, map}
 use Rattle.std.specs.Hash.{HashWrites}
 use Rattle.std.specs.Iterator.{Count, Drains, Yields}
@@ -38,15 +38,15 @@ module _ {K V : Type 0} (eq : K → K → Bool) where
       pub entries : new ≡ insert_all old (map item items)
       pub ended : MatchResult r (λ _. Drains steps it items) (λ _. StopsAt it items new)
 
-    -- the same of what an iterator is made of
+    -- `InsertsItems`, for the iterator that is made of `iter`
     pub record Extends {U E : Type 0} (becomes : U → T → Type 0) (iter : U) (old new : List (Entry K V)) (r : Result (Unit {0}) E) : Type 0 where
       pub it : T
       pub made : becomes iter it
       pub inserts : InsertsItems it old new r
 
-    -- the map has all of the iterator's items, inserted into one that had room for a number of them within what the iterator
-    -- bounds; the capacity is what that number became while the entries came one after the other; and there is an index if that
-    -- number, or the length now, is above the threshold
+    -- m is an empty map after the insertion of all of the iterator's items. The empty map had room for a number of entries within
+    -- what the iterator bounds, and from there the capacity grew as by single insertions. There is a hash index if that number, or
+    -- the length now, is above the threshold
     pub record Collects {U : Type 0} (becomes : U → T → Type 0) (remaining : T → Count) (iter : U) (m : Map K V) : Type 0 where
       pub it : T
       pub made : becomes iter it
@@ -59,9 +59,9 @@ module _ {K V : Type 0} (eq : K → K → Bool) where
       pub capacity : m.capacity ≡ (push_all (pair_list [] first) m.entries).capacity
       pub indexed : m.indexed ≡ (nat_lt unindexed first || nat_lt unindexed (length m.entries))
 
--- what the insertion of an iterator's items leaves of a map's memory, done or refused, where `fits` says that there was room for
--- all of them: then none is refused, and capacity and index stay. A refusal comes once the room is used up. No room is lost, the
--- capacity grows in steps, and there is an index if there was one or the list is now longer than the threshold
+-- the memory of a map after the insertion of an iterator's items, done or refused. `fits` says that there was room for all of them:
+-- then none is refused, and capacity and hash index stay. A refusal comes only once the room is used up. No room is lost, the
+-- capacity grows as by single insertions, and there is a hash index if there was one or the list is now longer than the threshold
 pub record IsExtended {K V A E : Type 0} (fits : Type 0) (old new : Map K V) (r : Result A E) : Type 0 where
   pub succeeds : fits → IsOk r
   pub spare : fits → (new.capacity ≡ old.capacity) × (new.indexed ≡ old.indexed)
@@ -71,17 +71,17 @@ pub record IsExtended {K V A E : Type 0} (fits : Type 0) (old new : Map K V) (r 
   pub indexed : new.indexed ≡ (old.indexed || nat_lt unindexed (length new.entries))
 
 module _ {K V T U : Type 0} (eq : K → K → Bool) (feeds : K → HashWrites) (steps : T → Option (K × V) → T → Type 0) (becomes : U → T → Type 0) (iter : U) where
-  -- each key has the last value that the iterator's items have for it, or else the one that it had before. It speaks of a run, as
-  -- the kit's clauses on iterators do, so that callers' proofs find the items
+  -- each key has the last value that the iterator's items have for it, or else its old value. The definition speaks of a run, like
+  -- the kit's clauses on iterators, so that callers' proofs find the items
   abbrev pub FindsLast : (K → Option V) → Map K V → Type 0
   FindsLast before m = (it : T) × becomes iter it × WholeRun steps it (λ p. (key : K) → get eq feeds m key ≡ update_all eq before p.items key)
 
-  -- what is found came with one of the iterator's items, at an equal key, and each item's key is found
+  -- where a key is found, some item has an equal key and the found value; and the key of each item is found
   abbrev pub HasItems : Map K V → Type 0
   HasItems m = (it : T) × becomes iter it × WholeRun steps it (λ p. ((key : K) → IfSome (get eq feeds m key) (λ v. AnyItem p (λ x. (eq key x.0 ≡ true) × (x.1 ≡ v))))
       × AllItems p (λ x. IsSome (get eq feeds m x.0)))
 
--- if the iterator's items stand under their keys' own hashes, the map's entries do
+-- if the iterator's items are under their keys' own hashes, the map's entries are
 abbrev pub KeepsOwn : {K V T U : Type 0} → (T → Option (Entry K V) → T → Type 0) → (U → T → Type 0) → U → Map K V → Type 0
 KeepsOwn {K} {V} {T} {U} steps becomes iter m = (it : T) × becomes iter it × WholeRun steps it (λ p. (feeds : K → HashWrites) → AreOwnEntries feeds p.items → AreOwn feeds m)
 

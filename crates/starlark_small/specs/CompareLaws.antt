@@ -25,7 +25,7 @@ module _ {K : Type 0} (eq : K → K → Bool) where
   alike-laws o = and_equiv (back_equiv (on_equiv (λ h. hash_number (hash_of h)) nat_eq_equiv)) (on_equiv key_of o)
 
 module _ {K V : Type 0} (eq : K → K → Bool) where
-  -- what a look-up finds, by recursion
+  -- the entry that a look-up finds is that of a recursive search
   entry_at-lookup : (es : List (Entry K V)) (q : Hashed K) → entry_at es (match_of eq es q) ≡ lookup_entry (alike eq q) es
   entry_at-lookup [] q = refl
   entry_at-lookup (e ∷ es) q = grind (arith, common_steps, position-cons, entry_at-lookup es q)
@@ -42,7 +42,7 @@ module _ {K V : Type 0} (eq : K → K → Bool) (E : V → V → Bool) where
   agree-entries : (ds es : List (Entry K V)) (q : Hashed K) → agree_at eq E ds es q ≡ option_eq (λ d e. E d.1 e.1) (lookup_entry (alike eq q) ds) (lookup_entry (alike eq q) es)
   agree-entries ds es q = grind (arith, common_steps, entry_at-lookup eq ds q, entry_at-lookup eq es q)
 
-  -- as the standard's word for maps
+  -- `same_entries` is std's equality of maps, and equal lengths
   pub same_entries-maps : (ds es : List (Entry K V)) → same_entries eq E ds es ≡ (nat_eq (length ds) (length es) && hash_map_eq (alike eq) E (as_map ds) (as_map es))
   unfolding entries_eq
   same_entries-maps ds es =
@@ -54,11 +54,11 @@ module _ {K V : Type 0} (eq : K → K → Bool) (E : V → V → Bool) where
   pub as_maps : (ds es : List (Entry K V)) → same_entries eq E ds es ≡ true → hash_map_eq (alike eq) E (as_map ds) (as_map es) ≡ true
   as_maps ds es same = second_so (nat_eq (length ds) (length es)) _ (sym (same_entries-maps ds es) ∙ same)
 
-  -- lists with the same entries are as long
+  -- lists with the same entries are equally long
   pub as_long : (ds es : List (Entry K V)) → same_entries eq E ds es ≡ true → nat_eq (length ds) (length es) ≡ true
   as_long ds es same = first_so (nat_eq (length ds) (length es)) _ same
 
-  -- lists that are as long and equal as finite maps have the same entries
+  -- lists that are equally long, and equal as finite maps, have the same entries
   pub both : (ds es : List (Entry K V)) → nat_eq (length ds) (length es) ≡ true → hash_map_eq (alike eq) E (as_map ds) (as_map es) ≡ true → same_entries eq E ds es ≡ true
   both ds es long same = same_entries-maps ds es ∙ (λ i. long i && same i)
 

@@ -1,4 +1,4 @@
--- What calls say of an index that is made, filled and grown. What an index holds is in `Index.antt`.
+-- The results of calls that make, fill, grow or change a hash index.
 use Rattle.std.specs.Prelude.{◌≡◌, ◌≢◌, ℕ, ◌+◌, ◌*◌, ◌-◌, ◌<◌, ◌≤◌, ◌^◌, ◌||◌, [], List, Option, Some, Result, IfOk, IfSome, IsOk, OnErr, OnOk, IsPermutation, is_some, length, max, nat_lt}
 use Rattle.std.specs.Borrow.{Bor}
 use Rattle.std.specs.List.{All}
@@ -12,15 +12,15 @@ use Rattle.starlark_table.specs.Growth.{most_for}
 use Rattle.starlark_table.specs.Table.{Table, members}
 use Rattle.starlark_vec2.specs.Sort.{Moves}
 
--- room was made for this many hashes in all, and not for many more, and the hashes stay; or it was refused, and nothing has changed
+-- room was made for this many hashes in all, and at most for `most_for` as many; or it was refused, and nothing has changed
 pub record GrowsHashes {A E : Type 0} (needed : ℕ) (old new : Hashes) (r : Result A E) : Type 0 where
   pub made : OnOk r (needed ≤ length old.list + new.room)
   pub most : OnOk r (length old.list + new.room ≤ most_for needed)
   pub list : new.list ≡ old.list
   pub unchanged : OnErr r (new ≡ old)
 
--- an index of an empty list was made, with room for this many entries and not for many more, if so many need one; or it was refused,
--- which never happens where they need none
+-- the hash index of an empty list was made, if this many entries need one, with room for them and at most for `most_for` as many; or
+-- that was refused, which never happens if they need none
 pub record MakesIndexFor {E : Type 0} (many : ℕ) (r : Result (Option Hashes) E) : Type 0 where
   pub empty : IfOk r (λ index. IfSome index (λ h. h.list ≡ []))
   pub made : IfOk r (λ index. is_some index ≡ nat_lt unindexed many)
@@ -28,7 +28,7 @@ pub record MakesIndexFor {E : Type 0} (many : ℕ) (r : Result (Option Hashes) E
   pub most : IfOk r (λ index. IfSome index (λ h. h.room ≤ most_for many))
   pub succeeds : many ≤ unindexed → IsOk r
 
--- there is an index, and a hash that was not in it went last; the list has room for its entry
+-- there is a hash index, to which a hash was appended that it lacked, and the list has room for the entry
 pub record IsNotedIn (hash : StarlarkHashValue) (free : ℕ) (old new : Option Hashes) : Type 0 where
   pub hashes : Hashes
   pub there : old ≡ Some hashes
@@ -38,30 +38,31 @@ pub record IsNotedIn (hash : StarlarkHashValue) (free : ℕ) (old new : Option H
   pub noted : new ≡ Some (noted hash hashes)
   pub fits : hash_number hash < 2 ^ 32
 
--- the hashes went where `to` says, and the room stays
+-- each hash has the index that `to` has at its old index, and the room stays
 pub record IsRenamed (to : List ℕ) (old new : Option Hashes) : Type 0 where
   pub list : (list : List ℕ) → IfSome old (λ h. Moves h.list to list) → option_map (λ h. h.list) new ≡ option_map (λ _. list) old
   pub room : option_map (λ h. h.room) new ≡ option_map (λ h. h.room) old
 
--- the table that is shown, where there is an index, has each index under its hash
+-- a table is shown exactly if there is a hash index, and has the index of each entry under its hash
 pub record ShowsTable (index : Option Hashes) (shown : Option (Bor (Table ℕ))) : Type 0 where
   pub there : is_some shown ≡ is_some index
   pub members : IfSome shown (λ table. IfSome index (λ h. IsPermutation (numbered h.list) (members table.now)))
 
 module _ {K V : Type 0} where
-  -- an empty index has the hash of each entry of the list, where there is one, and took the room of each
+  -- a hash index, if there is one, was filled with the hash of each entry of the list, and each took the room of one
   pub record IsFilled (es : List (Entry K V)) (old new : Option Hashes) : Type 0 where
     pub hashes : new ≡ option_map (λ h. record { list = hashes_of es; room = h.room - length es }) old
     pub fits : IfSome old (λ _. All (λ e. hash_number (entry_hash e) < 2 ^ 32) es)
 
-  -- an index of the list was made, if it is too long to do without; or it was refused, which never happens to a short one
+  -- the hash index of the list was made, if the list is longer than the threshold; or that was refused, which never happens if it is
+  -- not
   pub record MakesIndexOf {E : Type 0} (es : List (Entry K V)) (r : Result (Option Hashes) E) : Type 0 where
     pub indexed : IfOk r (λ index. IsIndexed es index)
     pub long : IfOk r (λ index. is_some index ≡ nat_lt unindexed (length es))
     pub succeeds : length es ≤ unindexed → IsOk r
 
-  -- whatever a reservation for this many new entries answers, the list stays indexed and no room is lost. Nothing changes where there
-  -- was room, nor at a refusal, which comes only where it was missing
+  -- the hash index after a reservation, done or refused: it is right for the list, and no room is lost. If there was room, nothing
+  -- changes. A refusal changes nothing, and comes only if there was no room
   pub record GrowsIndex {A E : Type 0} (es : List (Entry K V)) (additional : ℕ) (old new : Option Hashes) (r : Result A E) : Type 0 where
     pub indexed : IsIndexed es new
     pub grows : index_room (length es) old ≤ index_room (length es) new
@@ -69,8 +70,8 @@ module _ {K V : Type 0} where
     pub refused : OnErr r (index_room (length es) old < additional)
     pub unchanged : OnErr r (new ≡ old)
 
-  -- the index has room for this many new entries, where it grew not for many more, and there is one if there was or if so many more
-  -- need it; or it was refused
+  -- done: there is room for this many new entries; if the hash index grew, for at most `most_for` as many. There is a hash index if
+  -- there was one or if the new length needs it. Otherwise the reservation was refused
   pub record ReservesIndex {A E : Type 0} (es : List (Entry K V)) (additional : ℕ) (old new : Option Hashes) (r : Result A E) : Type 0 where
     pub room : OnOk r (additional ≤ index_room (length es) new)
     pub most : index_room (length es) old < additional → OnOk r (length es + index_room (length es) new ≤ most_for (max (2 * unindexed) (length es + additional)))

@@ -1,4 +1,4 @@
--- What a `SmallMap` ends as, once a reference into it has ended.
+-- What a `SmallMap` is once a reference into it has ended.
 use Rattle.std.specs.Prelude.{◌≡◌, ℕ, Bool, List, Option, Some, IsSome, is_some, Result, Ok, Err, OnOk, OnErr, length, map}
 use Rattle.std.specs.Borrow.{Fml, RattleType, Bor, MutBor, GName, Lends, LendsSo, follows, follows_so, name_if_ok}
 use Rattle.std.specs.Hash.{HashWrites}
@@ -15,14 +15,14 @@ use Rattle.starlark_small.specs.Insert.{IsInserted, IsRefused}
 use Rattle.starlark_small.specs.Map.{Map}
 use Rattle.starlark_small.specs.contracts.small_map.SmallMap.{the_row}
 
--- the answer of an insertion, where a refused key comes back without its hash
+-- the result of an insertion, with a refused key that comes back without its hash
 abbrev pub unhashed : {T K V : Type 0} → Result T (NoRoom (Hashed K × V)) → Result T (NoRoom (K × V))
 unhashed (Ok x) = Ok x
 unhashed (Err e) = Err (record { 0 = (key_of e.0.0, e.0.1) })
 
 module _ {K V : Type 0} (eq : K → K → Bool) where
-  -- whatever values are written: the keys stay in their order, and so does how many entries there are; each key, whatever its
-  -- hash, is there if it was, and only then; and keys under their own hashes stay so
+  -- whatever values are written to the map, its keys stay in their order, and their number stays; each key, under whatever hash, is
+  -- there exactly if it was; and keys under their own hashes stay so
   pub record KeepsAllButValues (m : Map K V) : Type 0 where
     pub keys : (ws : List (Entry K V)) → map entry_key (with_values m.entries ws) ≡ keys m
     pub length : (ws : List (Entry K V)) → length (with_values m.entries ws) ≡ length m.entries
@@ -30,13 +30,13 @@ module _ {K V : Type 0} (eq : K → K → Bool) where
     pub own : (ws : List (Entry K V)) (feeds : K → HashWrites) → AreOwn feeds m → AreOwnEntries feeds (with_values m.entries ws)
 
 module _ (K V : RattleType) (g : eq.Ghosts K.Denot) (s : MutBor (Map K.Denot V.Denot)) where
-  -- the map ends with what is left behind a reference to the value at the index, and all else stays
+  -- the map ends with what is left behind a reference to the value at the index, and all else is unchanged
   abbrev pub lends_value : ℕ → MutBor V.Denot → Fml
   lends_value i r = Lends (the_row K V g) V s r (λ w. record s.now { entries = set_value_at s.now.entries i w })
 
-  -- the value that a test finds under a hash ends as what is left behind the reference, and all else stays: by look-ups; the keys
-  -- in their order, and which are under their own hashes; and where the value is left as it was, the map is as it was. Where there
-  -- is none, the map stays
+  -- the value that a test finds under a hash ends as what is left behind the reference. All else is unchanged: what look-ups find at
+  -- other keys, the keys in their order, and which are under their own hashes. If the value is left as it was, or if there is none,
+  -- the map is as it was
   abbrev pub lends_get : (K.Denot → Bool) → StarlarkHashValue → Option (MutBor V.Denot) → Fml
   lends_get test hash r = LendsSo (the_row K V g) V s r
       (λ n w. (n ≡ record s.now { entries = with_value s.now.entries (position_of hash test s.now.entries) w }) × (keys n ≡ keys s.now)
@@ -44,18 +44,16 @@ module _ (K V : RattleType) (g : eq.Ghosts K.Denot) (s : MutBor (Map K.Denot V.D
       × ((feeds : K.Denot → HashWrites) → AreOwn feeds s.now → AreOwn feeds n) × (found test hash s.now.entries ≡ Some w → n ≡ s.now))
       (λ n. n ≡ s.now)
 
-  -- the map ends with the values that the loan of this name ends with, each in its place; hashes, keys, order, room, capacity
-  -- and index stay
+  -- the map ends with the values that the loan of this name ends with, each at its index, and all else is unchanged
   abbrev pub values_follow : GName → Fml
   values_follow γ = follows (the_row K V g) (the_row K V g) s.ghost_name γ (λ w. record s.now { entries = with_values s.now.entries w.entries })
 
-  -- the map ends as after an insertion of the new entry, its value what is left behind the reference; where it was refused, as
-  -- after a refusal
+  -- the map ends with the new entry appended, with the value that is left behind the reference; or the insertion was refused
   abbrev pub lends_inserted : {E : Type 0} → Hashed K.Denot → Result (Bor K.Denot × MutBor V.Denot) E → Fml
   lends_inserted key r =
       follows_so (the_row K V g) V s.ghost_name (name_if_ok (λ p. p.1.ghost_name) r) (λ w n. OnOk r (IsInserted s.now n key w)) (λ n. OnErr r (IsRefused s.now n))
 
-  -- the same, where only a reference to the value is lent
+  -- `lends_inserted`, if only a reference to the value is lent
   abbrev pub lends_new : {E : Type 0} → Hashed K.Denot → Result (MutBor V.Denot) E → Fml
   lends_new key r =
       follows_so (the_row K V g) V s.ghost_name (name_if_ok (λ p. p.ghost_name) r) (λ w n. OnOk r (IsInserted s.now n key w)) (λ n. OnErr r (IsRefused s.now n))

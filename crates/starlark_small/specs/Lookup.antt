@@ -1,6 +1,6 @@
--- What a caller of a `SmallMap` says of it: what a query finds under its own hash, and what a call leaves at its query and at
--- all other keys. Sets, ordered and sorted types share these words: a set is a map to `()`. All of them but `found`,
--- `found_key` and `AreOwnEntries` unfold by themselves in callers' proofs.
+-- Look-ups in a `SmallMap`: what a query finds under its own hash, and what a call leaves at its query and at all other keys.
+-- Sets, ordered and sorted types cite these definitions too: a set is a map to `()`. All of them but `found`, `found_key` and
+-- `AreOwnEntries` unfold by themselves in callers' proofs.
 use Rattle.std.specs.Prelude.{◌≡◌, ℕ, ◌<◌, length, All, Bool, Contains, IfSome, List, Option, None, is_some, map, true}
 use Rattle.std.specs.List.{sum_by}
 use Rattle.std.specs.Hash as fed
@@ -19,11 +19,11 @@ abbrev pub keys : {K V : Type 0} → Map K V → List K
 keys m = map entry_key m.entries
 
 module _ {Q K V : Type 0} (equivalent : Q → K → Bool) (feeds : Q → HashWrites) where
-  -- the value at what the query is equivalent to, under the query's own hash, where there is one
+  -- the value under the query's own hash whose key the query is equivalent to, if there is one
   abbrev pub get : Map K V → Q → Option V
   get m query = found (equivalent query) (own_hash feeds query) m.entries
 
-  -- the stored key there, where there is one
+  -- the stored key of that entry, if there is one
   abbrev pub get_key : Map K V → Q → Option K
   get_key m query = found_key (equivalent query) (own_hash feeds query) m.entries
 
@@ -32,18 +32,18 @@ module _ {Q K V : Type 0} (equivalent : Q → K → Bool) (feeds : Q → HashWri
   contains m query = is_some (get m query)
 
 module _ {Q K V : Type 0} (eq : K → K → Bool) (equivalent : Q → K → Bool) (feeds : Q → HashWrites) where
-  -- `Writes` of two maps at a query under its own hash: the new map has this value, or none, at the query; at each key that the
-  -- query is not equivalent to, whatever the key's hash, it has what the old one had
+  -- new has this value, or none, at the query under its own hash. At each key that the query is not equivalent to, under whatever
+  -- hash, it has what old had
   abbrev pub UpdatesBy : Map K V → Map K V → Q → Option V → Type 0
   UpdatesBy old new query value = Writes eq (equivalent query) (own_hash feeds query) old.entries new.entries value
 
 module _ {K V : Type 0} (eq : K → K → Bool) (feeds : K → HashWrites) where
-  -- the same at a key under its own hash
+  -- `UpdatesBy`, at a key under its own hash
   abbrev pub Updates : Map K V → Map K V → K → Option V → Type 0
   Updates old new key value = UpdatesBy eq eq feeds old new key value
 
 module _ {K V : Type 0} (eq : K → K → Bool) where
-  -- each key, whatever its hash, has what it had
+  -- each key, under whatever hash, has what it had
   abbrev pub IsSameAt : Map K V → Map K V → Type 0
   IsSameAt old new = (under : StarlarkHashValue) (key : K) → found (eq key) under new.entries ≡ found (eq key) under old.entries
 
@@ -52,15 +52,15 @@ module _ {K V : Type 0} where
   abbrev pub IsEmpty : Map K V → Type 0
   IsEmpty m = (test : K → Bool) (hash : StarlarkHashValue) → found test hash m.entries ≡ None
 
-  -- each key of the list stands under its own hash; callers' proofs never unfold this word
+  -- each key of the list is under its own hash. Callers' proofs never unfold this definition
   unfoldable pub AreOwnEntries : (K → HashWrites) → List (Entry K V) → Type 0
   AreOwnEntries feeds es = All (λ e. entry_hash e ≡ own_hash feeds (entry_key e)) es
 
-  -- what the values of a list weigh together
+  -- the sum of the measures of a list's values
   abbrev pub total_of : (V → ℕ) → List (Entry K V) → ℕ
   total_of measure es = sum_by measure (map entry_value es)
 
-  -- each key of the map stands under its own hash
+  -- each key of the map is under its own hash
   abbrev pub AreOwn : (K → HashWrites) → Map K V → Type 0
   AreOwn feeds m = AreOwnEntries feeds m.entries
 
@@ -69,7 +69,7 @@ module _ {K V : Type 0} where
   HasKey test m = (key : K) × Contains (keys m) key × (test key ≡ true)
 
 module _ {K V : Type 0} (test : K → Bool) (hash : StarlarkHashValue) (m : Map K V) where
-  -- the index of the entry under the hash whose key passes the test, where there is such an entry; it is within the list
+  -- the index of the entry under the hash whose key passes the test, if there is one; it is below the length
   pub record NamesIndex (r : Option ℕ) : Type 0 where
     pub index : r ≡ position_of hash test m.entries
     pub found : is_some r ≡ is_some (found test hash m.entries)
@@ -77,7 +77,7 @@ module _ {K V : Type 0} (test : K → Bool) (hash : StarlarkHashValue) (m : Map 
     pub key : IfSome r (λ _. HasKey test m)
 
 module _ {A V : Type 0} where
-  -- the value at the string of these bytes, under its own hash, where there is one
+  -- the value at the string of these bytes, under its own hash, if there is one
   abbrev pub get_text : Map (String A) V → List ℕ → Option V
   get_text m text = get (λ q k. bytes_eq q (string_bytes k)) fed.str m text
 

@@ -1,4 +1,4 @@
--- What a removal from a `SmallMap` leaves and answers. Sets and ordered types share these words: a set is a map to `()`.
+-- Removals from a `SmallMap`. Sets and ordered types cite these definitions too: a set is a map to `()`.
 use Rattle.std.specs.Prelude.{◌≡◌, ℕ, ◌+◌, length, remove, if◌then◌else◌, Bool, false, Some, None, is_some}
 use Rattle.std.specs.Hash.{HashWrites}
 use Rattle.starlark_hash.specs.declared.hash_value.StarlarkHashValue.{StarlarkHashValue}
@@ -8,8 +8,8 @@ use Rattle.starlark_small.specs.Map.{Map, KeepsMemory}
 use Rattle.starlark_small.specs.Lookup.{get, Updates, AreOwn}
 
 module _ {K V : Type 0} (eq : K → K → Bool) where
-  -- the entry under a hash whose key passes a test was removed, if there was one: by index, by look-ups, and how many entries
-  -- there are; keys under their own hashes stay so; and no room is lost, and capacity and index stay
+  -- the entry under a hash whose key passes a test was removed, if there was one. The fields say it of the list, of look-ups and of
+  -- the length. Keys under their own hashes stay so, no room is lost, and capacity and hash index stay
   pub record Removes (test : K → Bool) (hash : StarlarkHashValue) (old new : Map K V) : Type 0 where
     pub entries : new.entries ≡ without old.entries (position_of hash test old.entries)
     pub updates : Writes eq test hash old.entries new.entries None
@@ -17,8 +17,8 @@ module _ {K V : Type 0} (eq : K → K → Bool) where
     pub own : (feeds : K → HashWrites) → AreOwn feeds old → AreOwn feeds new
     pub kept : KeepsMemory old new
 
-  -- the entry of this key and value was removed: each key that it is not equal to has what it had, and where keys are under their
-  -- own hashes the value was at the key, and is gone
+  -- the entry with this key and value was removed. Each key that is not equal to it has what it had. If keys are under their own
+  -- hashes, the value was found at the key, and now nothing is
   pub record TakesOut (old new : Map K V) (key : K) (value : V) : Type 0 where
     pub others : (under : StarlarkHashValue) (other : K) → eq key other ≡ false → found (eq other) under new.entries ≡ found (eq other) under old.entries
     pub was : (feeds : K → HashWrites) → AreOwn feeds old → get eq feeds old key ≡ Some value

@@ -1,4 +1,4 @@
--- The slot of each index of a list: cells beside the table where the indices stand.
+-- The slots of the indices of a list, which the cells beside the table name.
 use Rattle.std.specs.Prelude.{◌≡◌, ◌≢◌, ℕ, ◌-◌, ◌<◌, ◌≤◌, ◌^◌, ◌∷◌, List, length, map, Option, Some, None, IsPermutation, if◌then◌else◌, nat_le, slice_index, slice_index_or, vec_capacity}
 use Rattle.std.specs.Global.{Vec}
 use Rattle.std.specs.List.{Contains}
@@ -6,7 +6,7 @@ use Rattle.std.specs.Option.{option_map}
 use Rattle.starlark_small.specs.Hashes.{numbered}
 use Rattle.starlark_table.specs.Table.{Table, members, table_capacity, table_len}
 
--- the hash of what stands in a slot
+-- the hash of the member in a slot
 abbrev pub hash_in : Option (ℕ × ℕ) → ℕ
 hash_in None = 0
 hash_in (Some m) = m.0
@@ -15,16 +15,16 @@ hash_in (Some m) = m.0
 abbrev pub hashes_in : List (Option (ℕ × ℕ)) → List ℕ → List ℕ
 hashes_in slots cells = map (λ s. hash_in (slice_index_or slots s None)) cells
 
--- each index that has a slot stands in the one that its cell names
+-- each index in a slot is in the one that its cell names
 pub record IsSited (cells : List ℕ) (slots : List (Option (ℕ × ℕ))) : Type 0 where
   pub within : (s h x : ℕ) → slice_index_or slots s None ≡ Some (h, x) → x < length cells
   pub named : (s h x : ℕ) → slice_index_or slots s None ≡ Some (h, x) → slice_index cells x ≡ s
 
--- each index but one stands in the slot that its cell names
+-- each index but one is in the slot that its cell names
 pub record StandsBut (but : ℕ) (cells : List ℕ) (slots : List (Option (ℕ × ℕ))) : Type 0 where
   pub there : (i : ℕ) → i < length cells → i ≢ but → (h : ℕ) × (slice_index_or slots (slice_index cells i) None ≡ Some (h, i))
 
--- no index stands in two slots
+-- no index is in two slots
 pub record StandsOnce (slots : List (Option (ℕ × ℕ))) : Type 0 where
   pub once : (s u h k x : ℕ) → slice_index_or slots s None ≡ Some (h, x) → slice_index_or slots u None ≡ Some (k, x) → s ≡ u
 
@@ -43,26 +43,26 @@ pub record KeepsIndices (table : Table ℕ) (cells : List ℕ) (memory : ℕ) : 
 abbrev pub renaming : (ℕ → ℕ) → ℕ × ℕ → ℕ × ℕ
 renaming name m = (m.0, name m.1)
 
--- the slots once each index is the one that is given for it
+-- the slots with each index replaced by the one that is given for it
 abbrev pub renamed : (ℕ → ℕ) → List (Option (ℕ × ℕ)) → List (Option (ℕ × ℕ))
 renamed name slots = map (option_map (renaming name)) slots
 
--- the index one down, if it is above `last`
+-- the index, decremented if it is above `last`
 abbrev pub lowered : ℕ → ℕ → ℕ
 lowered last index = if nat_le index last then index else index - 1
 
--- each index is the one that is given for it, in the slot where it stood
+-- each index was replaced by the one that is given for it, in its slot
 pub record RenamesEach (name : ℕ → ℕ) (old new : Table ℕ) : Type 0 where
   pub slots : new.slots ≡ renamed name old.slots
   pub room : new.room ≡ old.room
 
--- the cells name the slot of each index, and are as many as they were, in as much memory
+-- the cells name the slot of each index; their number and their memory are unchanged
 pub record NamesSlots (slots : List (Option (ℕ × ℕ))) (old new : Vec ℕ) : Type 0 where
   pub sited : IsSited new.items slots
   pub even : length new.items ≡ length old.items
   pub spare : vec_capacity new ≡ vec_capacity old
 
--- an index was taken out, under whatever hash it stood; slots and capacity stay, and the cells name the slots of those that are left
+-- an index was removed; slots and capacity stay, and the cells name the slots of the indices that are left
 pub record TakesIndex (index : ℕ) (old new : Table ℕ) (before after : Vec ℕ) : Type 0 where
   pub taken : (h : ℕ) → Contains (members old) (h, index) → IsPermutation (members old) ((h, index) ∷ members new)
   pub slots : length new.slots ≡ length old.slots

@@ -1,4 +1,4 @@
--- What a call leaves that reverses or sorts a `SmallMap`. Sets and ordered types share these words.
+-- Reversals and sorts of a `SmallMap`. Sets and ordered types cite these definitions too.
 use Rattle.std.specs.Prelude.{◌≡◌, reverse, Bool, length, Result, IsOk, IsSorted, OnErr, OnOk}
 use Rattle.std.specs.Hash.{HashWrites}
 use Rattle.std.specs.declared.cmp.Ordering.{Ordering}
@@ -15,8 +15,8 @@ module _ {K V : Type 0} (eq : K → K → Bool) where
     pub own : (feeds : K → HashWrites) → AreOwn feeds old → AreOwn feeds new
     pub kept : KeepsMemory old new
 
-  -- the entries were sorted by key, or that was refused, which never happens where their keys ascend already. Either way there are
-  -- as many, and each key has what it had
+  -- the entries were sorted by key; or that was refused, which never happens if the keys ascend already. Either way the length is
+  -- unchanged, and each key has what it had
   pub record SortsByKey {A E : Type 0} (cmp : K → K → Ordering) (old new : Map K V) (result : Result A E) : Type 0 where
     pub entries : OnOk result (new.entries ≡ sorted_by_key cmp old.entries)
     pub sorted : OnOk result (IsSorted cmp (keys new))

@@ -1,4 +1,4 @@
-//! The entry of a key in a map, or the lack of one.
+//! The entry of a key in a map, occupied or vacant.
 ghost use Rattle.std.specs.Prelude.{◌≡◌, ◌<◌, length, Some, None, IfErr, IfOk, OnErr};
 ghost use Rattle.std.specs.Borrow.{sem};
 ghost use Rattle.std.specs.Option.{option_map};
@@ -10,25 +10,25 @@ use crate::small_map::SmallMap;
 use starlark_hash::{Hashed, NoRoom};
 use std::hash::Hash;
 
-/// The entry of a key under a hash, or the lack of one. That the entry is there, or is lacking, is
-/// a fact of the type: no call requires anything but that its closure may be called. What is written through an entry
-/// is the value at its index, and all else of the map stays. Let go, it leaves the map as it is.
+/// The entry of a key under a hash, occupied or vacant. Whether the map has the key is a fact of the type, so a call
+/// requires only that its closure may be called. A write through the entry changes the value at its index, and nothing
+/// else of the map. An entry that is dropped leaves the map as it is.
 #[derive(Drop)]
 pub enum Entry<'a, K: Eq, V> {
-    /// There is an entry of this hash with an equal key.
+    /// The map has an entry with this hash and an equal key.
     Occupied(OccupiedEntry<'a, K, V>),
-    /// There is none.
+    /// The map has no such entry.
     Vacant(VacantEntry<'a, K, V>),
 }
 
-/// An entry that the map has: the lent map, and an index within its list.
+/// An entry that the map has. It holds the lent map, and an index below the length of its list.
 pub struct OccupiedEntry<'a, K: Eq, V> {
     map: &'a mut SmallMap<K, V>,
     index: usize,
     ghost within: { index < length map.now.entries },
 }
 
-/// A key that the map lacks: the lent map, and the key, which has no match there.
+/// A key that the map lacks. It holds the lent map, and the key with its hash.
 pub struct VacantEntry<'a, K: Eq, V> {
     map: &'a mut SmallMap<K, V>,
     key: Hashed<K>,
@@ -38,7 +38,7 @@ pub struct VacantEntry<'a, K: Eq, V> {
 impl<K: Eq, V> Drop for OccupiedEntry<'_, K, V> {
     ghost use Rattle.starlark_small.specs.MapEntry.{occupied_map};
 
-    // The map ends as the entry has left it.
+    // The map ends in the state in which the entry has left it.
     fn drop(self)
         ensures { self.exit.0.now ≡ (occupied_map self.entry).now }
     {
@@ -67,22 +67,23 @@ impl<K: Eq, V> SmallMap<K, V> {
     ghost use Rattle.starlark_small.specs.Map.{own_hashed};
     ghost use Rattle.starlark_small.specs.MapEntry.{map_of_entry, Enters};
 
-    /// The entry of a key under its own hash, or the lack of one. Where there is one, it keeps its key, and this one is
-    /// dropped.
+    /// The entry of a key under its own hash. An occupied entry keeps its stored key, and the given key is dropped.
     pub fn entry(&mut self, key: K) -> Entry<'_, K, V>
     where
         K: Hash + Drop,
+        // The entry lends this very map, so what is written through it is written to the map.
         ensures same_map { (map_of_entry result).ghost_name ≡ self.entry.ghost_name }
         ensures enters { Enters K.eq self.old (own_hashed K.hash_input key) result }
     {
         self.entry_hashed(Hashed::new(key))
     }
 
-    /// The entry under this hash with an equal key, or the lack of one. Where there is one, it keeps its key, and this
-    /// one is dropped.
+    /// The entry of a key under a precomputed hash. An occupied entry keeps its stored key, and the given key is
+    /// dropped.
     pub fn entry_hashed(&mut self, key: Hashed<K>) -> Entry<'_, K, V>
     where
         K: Drop,
+        // The entry lends this very map, so what is written through it is written to the map.
         ensures same_map { (map_of_entry result).ghost_name ≡ self.entry.ghost_name }
         ensures enters { Enters K.eq self.old key result }
     {
@@ -96,7 +97,7 @@ impl<K: Eq, V> SmallMap<K, V> {
 impl<K: Eq, V> SmallMap<K, V> {
     ghost use Rattle.starlark_small.specs.Lend.{lends_new};
 
-    // Puts a new key last under this hash, and lends its value.
+    // Appends a new key under this hash, and lends its value.
     fn insert_new(&mut self, key: Hashed<K>, value: V) -> Result<&mut V, NoRoom<(Hashed<K>, V)>>
         requires { found (K.eq (key_of key)) (hash_of key) self.old.entries ≡ None }
         ensures* writes_back { sem 𝓛 (lends_new K.row V.row K.PartialEq self.entry key result) }
@@ -132,7 +133,7 @@ impl<'a, K: Eq, V> OccupiedEntry<'a, K, V> {
         value
     }
 
-    /// The value, to be written. The map has what is left in it, and all else stays.
+    /// The value, for writing. The map has what is left in it, and all else is unchanged.
     #[inline]
     pub fn get_mut(&mut self) -> &mut V
         ensures* writes_back { sem 𝓛 (occupied_keeps K.row V.row self.entry result) }
@@ -143,8 +144,8 @@ impl<'a, K: Eq, V> OccupiedEntry<'a, K, V> {
         self.map.value_at_mut(index)
     }
 
-    /// The value, to be written for as long as the map is lent. The map ends with what is left in it, and all else
-    /// stays.
+    /// The value, for writing as long as the map is lent. The map ends with what is left in it, and all else is
+    /// unchanged.
     #[inline]
     pub fn into_mut(self) -> &'a mut V
         ensures* writes_back { sem 𝓛 (occupied_lends K.row V.row self.entry result) }
@@ -155,7 +156,7 @@ impl<'a, K: Eq, V> OccupiedEntry<'a, K, V> {
         map.value_at_mut(index)
     }
 
-    /// The stored key, and the value, to be written. The map has what is left in it, and all else stays.
+    /// The stored key, and the value for writing. The map has what is left in the value, and all else is unchanged.
     #[inline]
     pub fn as_key_and_mut_value(&mut self) -> (&K, &mut V)
         ensures* writes_back { sem 𝓛 (occupied_keeps K.row V.row self.entry result.1) }
@@ -178,9 +179,9 @@ impl<'a, K: Eq, V> VacantEntry<'a, K, V> {
         self.key.key()
     }
 
-    /// Inserts the key with this value, and lends the value. The entry goes last, and the map ends with what is left in
-    /// the value. It is refused where there is no room and no memory is found: then key and value come back, and
-    /// entries and index stay. Capacity, room and index are left as `SmallMap::insert_hashed` leaves them.
+    /// Appends the key with this value, and lends the value. The map ends with what is left in the value. The insertion
+    /// is refused if there is no room and no memory is found: then key and value come back, and entries and hash index
+    /// are unchanged. Capacity, room and hash index become what `SmallMap::insert_hashed` makes of them.
     pub fn insert(self, value: V) -> Result<&'a mut V, NoRoom<(Hashed<K>, V)>>
         ensures* writes_back { sem 𝓛 (vacant_lends K.row V.row self.entry result) }
         ensures value { IfOk result (λ p. p.now ≡ value) }
@@ -198,7 +199,7 @@ impl<'a, K: Eq, V> Entry<'a, K, V> {
     ghost use Rattle.starlark_small.specs.Map.{Map};
     ghost use Rattle.starlark_small.specs.MapEntry.{entry_lends, entry_value_of, map_of_entry, Puts, Refuses, IsKeyOf, IsLeftBy, IsModified, IsVacant, ShowsOrGives, TakesItsValue};
 
-    /// The stored key, or the one that the map lacks.
+    /// The stored key of an occupied entry, or the key that the map lacks.
     #[inline]
     pub fn key(&self) -> &K
         ensures { IsKeyOf self.now result.now }
@@ -209,8 +210,8 @@ impl<'a, K: Eq, V> Entry<'a, K, V> {
         }
     }
 
-    /// The value that is there, to be written, or else this one, inserted as `VacantEntry::insert` does. Where there is
-    /// a value, this one is dropped and no memory is asked for.
+    /// The value at the key, for writing. A vacant entry inserts `default` in the way of `VacantEntry::insert`; an
+    /// occupied one drops it, and asks for no memory.
     pub fn or_insert(self, default: V) -> Result<&'a mut V, NoRoom<(Hashed<K>, V)>>
     where
         V: Drop,
@@ -222,9 +223,8 @@ impl<'a, K: Eq, V> Entry<'a, K, V> {
         self.or_insert_with(|| default)
     }
 
-    /// The value that is there, to be written, or else what the closure gives, inserted as `VacantEntry::insert` does.
-    /// The closure is called once, before the map grows, and only where there is no value; where there is one, no
-    /// memory is asked for.
+    /// The value at the key, for writing. A vacant entry calls the closure once, before the map grows, and inserts what
+    /// it returns in the way of `VacantEntry::insert`. An occupied one does not call it, and asks for no memory.
     pub fn or_insert_with<F: FnOnce() -> V>(
         self,
         default: F,
@@ -241,8 +241,8 @@ impl<'a, K: Eq, V> Entry<'a, K, V> {
         }
     }
 
-    /// The value that is there, to be written, or else the default one, inserted as `VacantEntry::insert` does. Where
-    /// there is a value, no memory is asked for.
+    /// The value at the key, for writing. A vacant entry inserts the default value in the way of `VacantEntry::insert`.
+    /// An occupied one asks for no memory.
     pub fn or_default(self) -> Result<&'a mut V, NoRoom<(Hashed<K>, V)>>
     where
         V: Default,
@@ -257,7 +257,8 @@ impl<'a, K: Eq, V> Entry<'a, K, V> {
         }
     }
 
-    /// The same entry, after the closure was called once at its value, where there is one.
+    /// Calls the closure once on the value of an occupied entry, and returns the entry. A vacant entry comes back
+    /// unchanged.
     pub fn and_modify<F: FnOnce(&mut V)>(self, f: F) -> Self
         requires { TakesItsValue F.FnOnce f self }
         ensures same_map { (map_of_entry result).ghost_name ≡ (map_of_entry self.entry).ghost_name }

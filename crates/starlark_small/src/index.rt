@@ -1,4 +1,4 @@
-//! The index of a list of entries: the hashes of the list, where it is too long to do without. The list stands beside it.
+//! The hash index of a list of entries, if the list needs one. The list itself is stored beside it.
 ghost use Rattle.std.specs.Prelude.{◌≡◌, ℕ, ◌+◌, ◌-◌, ◌^◌, ◌<◌, ◌≤◌, [], List, None, IfOk, IfSome, OnErr, OnOk, true, false, if◌then◌else◌, is_some, length, nat_le};
 ghost use Rattle.std.specs.Option.{option_map};
 ghost use Rattle.starlark_hash.specs.HashValue.{hash_number};
@@ -19,20 +19,20 @@ use starlark_vecmap::VecMap;
 use std::alloc::{AllocError, Global};
 use std::marker::Model;
 
-/// The greatest length that a list may have without an index; a longer one always has one. Why it is 16 is said in
-/// docs/DESIGN.md. Definitions have it as `unindexed`.
+/// The greatest length that a list may have without a hash index; a longer list always has one. Definitions name it
+/// `unindexed`. docs/DESIGN.md says why it is 16.
 pub const UNINDEXED: usize = 16;
 
-// Least capacity of an index that is made where a list grows: twice the threshold, so that the next few insertions do not make
-// it anew.
+// The least capacity of a hash index that is made as a list grows. It is twice the threshold, so that the next few
+// insertions do not rebuild the index.
 const FIRST: usize = 2 * UNINDEXED;
 
-/// The hashes of a list's entries, each found by its index; or nothing, where the list is short enough to do without. The
-/// table stands in a block of its own, so that a map takes no more room for it than a pointer.
+/// The hash index of a list, or nothing if the list is short enough. A contract sees the hashes of the list, in order.
+/// The table is in a block of its own, so that a map holds no more of it than a pointer.
 #[derive(Drop)]
 pub(crate) struct Index {
     table: Perhaps<HashTable>,
-    // Where the table and its block get their memory.
+    // The table and its block get their memory from it.
     alloc: Global,
 }
 
@@ -45,10 +45,10 @@ impl Model for Index {
     ghost view = { λ i. i.table };
 }
 
-// Making it
+// Constructors
 
 impl Index {
-    /// No index, as of a list that is short.
+    /// No hash index, for a short list.
     #[inline]
     pub(crate) fn none(alloc: Global) -> Self
         ensures { result ≡ None }
@@ -59,7 +59,7 @@ impl Index {
         }
     }
 
-    /// An index of an empty list, with room for this many entries, if a list of so many needs one.
+    /// The hash index of an empty list, with room for `capacity` entries, if a list of this length needs one.
     pub(crate) fn with_capacity(alloc: Global, capacity: usize) -> Result<Self, AllocError>
         ensures { MakesIndexFor capacity result }
     {
@@ -70,7 +70,8 @@ impl Index {
         Ok(Index { table, alloc })
     }
 
-    /// An index of another list, with room for all that the list has room for, if it is too long to do without.
+    /// The hash index of these entries, if they need one, for as many entries as their capacity. Of this index only the
+    /// allocator is used.
     pub(crate) fn of_other<K, V>(&self, entries: &VecMap<K, V>) -> Result<Self, AllocError>
         ensures made { MakesIndexOf entries.now.entries result }
         ensures most { IfOk result (λ index. IfSome index (λ h. length h.list + h.room ≤ most_for entries.now.capacity)) }
@@ -83,7 +84,7 @@ impl Index {
         Ok(index)
     }
 
-    /// Makes room for this many new entries, for which the list has room.
+    /// Makes room for `additional` new entries. The list has room for them already.
     pub(crate) fn reserve<K, V>(
         &mut self,
         entries: &VecMap<K, V>,
@@ -105,7 +106,7 @@ impl Index {
         }
     }
 
-    // Puts another index in the place of this one, with room for this many entries, and fills it from the list.
+    // Replaces the hash index by a new one with room for `capacity` entries, filled from the list.
     fn make_anew<K, V>(&mut self, entries: &VecMap<K, V>, capacity: usize) -> Result<(), AllocError>
         requires long { unindexed < capacity }
         requires fits { length entries.now.entries ≤ capacity }
@@ -121,7 +122,7 @@ impl Index {
         Ok(())
     }
 
-    /// Lets the index go if the list is short enough to do without.
+    /// Drops the hash index if a list of length `len` needs none.
     pub(crate) fn drop_if_short(&mut self, len: usize)
         ensures { self.new ≡ (if nat_le len unindexed then None else self.old) }
     {
@@ -131,10 +132,11 @@ impl Index {
     }
 }
 
-// As the list changes
+// Changes of the list
 
 impl Index {
-    /// Puts the hash of an entry that is to go last.
+    /// Adds the hash of an entry that is about to be appended.
+    #[inline(always)]
     pub(crate) fn note(&mut self, hash: StarlarkHashValue)
         requires { IfSome self.old (λ h. 0 < h.room) }
         ensures fits { IfSome self.old (λ _. hash_number hash < 2 ^ 32) }
@@ -145,8 +147,8 @@ impl Index {
         }
     }
 
-    /// Puts the hash of an entry that is to go last, if the first look at the index shows that it is new, and both index and
-    /// list have room for it; else nothing changes. `spare` is the room of the list.
+    /// Adds the hash of an entry that is about to be appended, if the first group shows that no entry has the hash, and
+    /// hash index and list have room. Otherwise nothing changes. `spare` is the room of the list.
     #[inline(always)]
     pub(crate) fn note_new(&mut self, hash: StarlarkHashValue, spare: usize) -> bool
         ensures noted { result ≡ true → IsNotedIn hash spare self.old self.new }
@@ -158,7 +160,7 @@ impl Index {
         }
     }
 
-    /// Puts the hash of each entry of the list into an empty index that has room for them.
+    /// Fills an empty hash index with the hash of each entry of the list.
     pub(crate) fn note_all<K, V>(&mut self, entries: &VecMap<K, V>)
         requires { IfSome self.old (λ h. (h.list ≡ []) × (length entries.now.entries ≤ h.room)) }
         ensures { IsFilled entries.now.entries self.old self.new }
@@ -172,7 +174,7 @@ impl Index {
         }
     }
 
-    /// Takes out the hash of the entry at this index.
+    /// Removes the hash of the entry at this index.
     #[inline]
     pub(crate) fn forget(&mut self, index: usize)
         requires { IfSome self.old (λ h. index < length h.list) }
@@ -183,7 +185,7 @@ impl Index {
         }
     }
 
-    /// Takes out the hash of the last entry.
+    /// Removes the hash of the last entry.
     #[inline]
     pub(crate) fn forget_last(&mut self)
         requires { IfSome self.old (λ h. 0 < length h.list) }
@@ -194,7 +196,7 @@ impl Index {
         }
     }
 
-    /// Takes every hash out.
+    /// Removes all hashes.
     pub(crate) fn clear(&mut self)
         ensures { self.new ≡ option_map cleared self.old }
     {
@@ -203,7 +205,8 @@ impl Index {
         }
     }
 
-    /// Whether one pass over the slots costs less than taking each hash out and in again: there are only a few slots for each.
+    /// Whether there are only a few slots for each hash. A pass over the slots then costs less than to remove and add
+    /// each hash.
     pub(crate) fn is_dense(&self) -> bool {
         match self.table.get() {
             Some(table) => table.room() / 8 <= table.len(),
@@ -211,7 +214,7 @@ impl Index {
         }
     }
 
-    /// Puts each hash where `to` says that its entry goes.
+    /// Gives each hash the new index of its entry, which `to` has at the old index.
     pub(crate) fn rename(&mut self, to: &[u32])
         requires { IfSome self.old (λ h. (list : List ℕ) × Moves h.list to.now list) }
         ensures { IsRenamed to.now self.old self.new }
@@ -221,7 +224,7 @@ impl Index {
         }
     }
 
-    /// Puts the hashes into reverse order.
+    /// Reverses the order of the hashes.
     pub(crate) fn reverse(&mut self)
         ensures { self.new ≡ option_map reversed self.old }
     {
@@ -231,10 +234,10 @@ impl Index {
     }
 }
 
-// Reading it
+// Reads
 
 impl Index {
-    /// How many new entries surely need no memory for the index of a list of this length.
+    /// How many new entries certainly need no memory for the hash index of a list of this length.
     #[inline]
     pub(crate) fn room(&self, len: usize) -> usize
         requires { IsIndexedAt len self.now }
@@ -246,7 +249,7 @@ impl Index {
         }
     }
 
-    /// The table of the indices, where there is one.
+    /// The table that has the index of each entry under its hash, or none if there is no hash index.
     #[inline]
     pub(crate) fn table(&self) -> Option<&ReadyTable<u32, StarlarkHashValue>>
         ensures { ShowsTable self.now result }

@@ -1,4 +1,4 @@
-//! The walks of a `SmallMap`, which are those of its list.
+//! The iterators of a `SmallMap`, which are those of its list.
 
 pub use starlark_vecmap::vec_map::{
     IntoIter, IntoIterHashed, IntoKeys, IntoValues, Iter, IterHashed, IterMut, Keys, Values,

@@ -1,4 +1,4 @@
-//! Small maps that walk in the order of insertion.
+//! Small maps that iterate in the order of insertion.
 #![tactic(auto)]
 
 pub mod entry;

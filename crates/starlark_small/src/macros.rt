@@ -9,9 +9,10 @@ use crate::SmallMap;
 use std::alloc::AllocError;
 use std::hash::Hash;
 
-/// A `SmallMap` of these keys and values, as `smallmap![alloc; 1 => "a", 2 => "b"]?`. It begins with room for as many
-/// entries as are written, and inserts them in their order, each under its key's own hash: a key that is written again
-/// keeps its index and takes the later value. The room at the beginning alone may be refused; then nothing is made.
+/// Makes a `SmallMap` of these keys and values, as in `smallmap![alloc; 1 => "a", 2 => "b"]?`. The map begins with room
+/// for as many entries as are written. They are inserted in their order, each under its key's own hash. A key that is
+/// written again keeps its index and takes the later value. Only the room at the beginning may be refused; then nothing
+/// is made.
 #[macro_export]
 macro_rules! smallmap {
     (@one $key:expr) => {
@@ -24,9 +25,9 @@ macro_rules! smallmap {
     }};
 }
 
-/// One step of `smallmap!`: inserts into a map that was made, as `SmallMap::insert` does. A key that is there is never
-/// refused, nor is any with room to spare; a map that was refused stays so. Room, capacity and index are left as an
-/// insertion leaves them.
+/// One step of `smallmap!`: inserts in the way of `SmallMap::insert` into a map that was made. A key that is there is
+/// never refused, and with room to spare no key is. Room, capacity and hash index become what an insertion makes of
+/// them. If the map was refused, so is the result.
 pub fn inserted<K: Eq + Hash + Drop, V: Drop>(
     map: Result<SmallMap<K, V>, AllocError>,
     key: K,

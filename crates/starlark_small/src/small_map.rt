@@ -1,4 +1,4 @@
-//! The map. It alone sees its list of entries and their index.
+//! The map. This file and its modules alone see the list of entries and its index.
 ghost use Rattle.starlark_small.specs.New.{IsBare, MakesEmptyFor};
 ghost use Rattle.std.specs.Prelude.{◌≡◌, ◌-◌, ◌<◌, ◌≤◌, ◌==◌, ◌^◌, length, is_some, IfSome, IsPermutation, IsSome};
 ghost use Rattle.starlark_small.specs.Index.{positions, unindexed};
@@ -7,6 +7,7 @@ ghost use Rattle.starlark_table.specs.Table.{members};
 mod clone;
 mod collect;
 mod compare;
+mod debug;
 mod get;
 mod get_mut;
 mod insert;
@@ -23,13 +24,13 @@ use starlark_vecmap::VecMap;
 use std::alloc::{AllocError, Global};
 use std::marker::Model;
 
-/// A map that walks in the order of insertion. It is seen as the list of its entries, its room, its capacity, and
-/// whether it has an index.
+/// A map that iterates in the order of insertion. A contract sees the list of its entries, its room, its capacity, and
+/// whether it has a hash index.
 ///
-/// An entry stands under a hash that its caller brings, which need not be the key's own: a look-up finds the entry of
-/// that hash and an equal key. No two entries have the same hash and equal keys. One key may stand under two hashes,
-/// and each is found under its own alone. A list that has grown longer than `UNINDEXED` has an index,
-/// which changes no answer. The walks go from both ends, with exact length and size hint.
+/// An entry is stored under a hash that the caller supplies, which need not be the key's own. A look-up finds the entry
+/// with that hash and an equal key. No two entries have the same hash and equal keys. Two entries may have equal keys
+/// under two hashes, and each is found under its own hash alone. A list longer than `UNINDEXED` has a hash index, which
+/// changes no answer. The iterators go from both ends, with exact length and size hint.
 #[derive(Drop)]
 pub struct SmallMap<K: Eq, V> {
     entries: VecMap<K, V>,
@@ -48,7 +49,7 @@ impl<K: Eq, V> Model for SmallMap<K, V> {
 }
 
 impl<K: Eq, V> SmallMap<K, V> {
-    /// An empty map without room, capacity and index. It asks for no memory until the first insertion.
+    /// An empty map without room, capacity and hash index. It asks for no memory until the first insertion.
     #[tactic(auto, using(crate::proofs::CallerOwn::emptied))]
     #[inline]
     pub fn new(alloc: Global) -> Self
@@ -60,8 +61,9 @@ impl<K: Eq, V> SmallMap<K, V> {
         }
     }
 
-    /// An empty map of this capacity, with room for so many entries, and with an index where so many need one. Where
-    /// memory is refused, or for more than 3,489,660,928 entries, nothing is made; capacity 0 asks for none.
+    /// An empty map with this capacity and with room for this many entries. It has a hash index if this many entries
+    /// need one. If memory is refused, or for more than 3,489,660,928 entries, nothing is made. Capacity 0 asks for no
+    /// memory.
     #[tactic(auto, using(crate::proofs::CallerOwn::emptied))]
     #[inline(always)]
     pub fn with_capacity(alloc: Global, capacity: usize) -> Result<Self, AllocError>
@@ -72,7 +74,7 @@ impl<K: Eq, V> SmallMap<K, V> {
         Ok(SmallMap { entries, index })
     }
 
-    /// How many entries there are.
+    /// The number of entries.
     #[inline]
     pub fn len(&self) -> usize
         ensures len { result ≡ length self.now.entries }
@@ -90,7 +92,7 @@ impl<K: Eq, V> SmallMap<K, V> {
         self.entries.is_empty()
     }
 
-    /// How many entries there may be before the list grows.
+    /// The number of entries up to which the list does not grow.
     #[inline]
     pub fn capacity(&self) -> usize
         ensures capacity { result ≡ self.now.capacity }
@@ -99,7 +101,7 @@ impl<K: Eq, V> SmallMap<K, V> {
         self.entries.capacity()
     }
 
-    /// How many new entries surely need no memory, neither for the list nor for the index.
+    /// How many new entries certainly need no memory, neither for the list nor for the hash index.
     #[inline]
     pub fn room(&self) -> usize
         ensures { result ≡ self.now.room }
@@ -108,8 +110,8 @@ impl<K: Eq, V> SmallMap<K, V> {
         spare.min(self.index.room(self.entries.len()))
     }
 
-    /// The index, where there is one: a table of the indices of the list, each under the promoted hash of its entry, and of no
-    /// other member. There is one wherever the list is longer than `UNINDEXED`.
+    /// The hash index, if there is one. It is a table whose members are the indices of the list, each under the
+    /// promoted hash of its entry. A list longer than `UNINDEXED` has one.
     #[inline]
     pub fn index(&self) -> Option<&ReadyTable<u32, StarlarkHashValue>>
         ensures indices { IfSome result (λ table. IsPermutation (positions self.now.entries) (members table.now)) }

@@ -87,6 +87,7 @@ module _ {T : Type 0} (hash : ℕ) (tags : List ℕ) (slots : List (Option (ℕ 
     pub its : bits ≡ tag_bits (tag hash) tags slot (end - slot)
     pub stop : end < start + 16 → get_or tags end 0 ≡ empty_tag
     pub straight : (q : ℕ) → start ≤ q → q ≤ end → q < length slots → way hash slots q ≡ way hash slots start + (q - start)
+    -- this is the first group, and whole; or every slot that is still to come is far from the home
     pub first : ((start ≡ home (length slots) hash) × (end ≡ start + 16))
         ⊎ ((q : ℕ) → q < length slots → way hash slots start ≤ way hash slots q → IsFar (home (length slots) hash) q)
 

@@ -215,19 +215,10 @@ impl<T, H: KeptHash> ReadyTable<T, H> {
         ensures none { IfSome result (λ _. items_under (H.number hash) self.now ≡ []) }
         ensures vacant { IfSome result (λ slot. IsVacancy (H.number hash) self.now.slots slot) }
     {
+        // The test also shows the compiler that there are slots.
         if self.slots() == 0 {
             return None;
         }
-        self.vacancy_unchecked(hash)
-    }
-
-    /// Finds a vacancy in the way of `vacancy`, in a table that has slots. This is required, not tested.
-    #[inline(always)]
-    pub fn vacancy_unchecked(&self, hash: H) -> Option<usize>
-        requires { 0 < length self.now.slots }
-        ensures none { IfSome result (λ _. items_under (H.number hash) self.now ≡ []) }
-        ensures vacant { IfSome result (λ slot. IsVacancy (H.number hash) self.now.slots slot) }
-    {
         vacancy(
             &self.slots,
             self.tags.as_slice(tags_beside(&self.slots)),

@@ -7,6 +7,7 @@ ghost use Rattle.starlark_unordered.specs.Pairs.{pairs_of, HasDistinctKeys};
 mod clone;
 mod collect;
 mod compare;
+mod debug;
 mod get;
 mod insert;
 mod iter;

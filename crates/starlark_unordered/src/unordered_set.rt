@@ -13,6 +13,7 @@ ghost use Rattle.starlark_unordered.specs.Pairs.{pairs_of, with_pair, HasDistinc
 
 mod collect;
 mod compare;
+mod debug;
 mod raw_entry;
 
 use crate::unordered_map::UnorderedMap;

@@ -69,7 +69,8 @@ module _ {A B : Type 0} where
   zip-swap (z ∷ xs) (w ∷ ys) i j e = grind (arith, zip-set, get_or-both)
   zip-swap xs ys i j e = grind arith
 
--- if each entry is its own index, all items are in order
+-- `ps` and `order1` are the items and the order at the beginning, `qs` and `order` those now. If each entry of `order` is now
+-- its own index, the items are as `order1` asked.
 pub PutsInOrder-from_placed : {X : Type 0} (ps : List X) (order1 : List ℕ) (qs : List X) (order : List ℕ) → length qs ≡ length order1 → length order ≡ length order1 → Spread (length ps) order1
     → ((k : ℕ) → k < length order → get_or order k 0 ≡ k) → ((k : ℕ) (d : X) → k < length order → get_or qs (get_or order k 0) d ≡ get_or ps (get_or order1 k 0) d) → PutsInOrder ps order1 qs
 PutsInOrder-from_placed ps order1 qs order len count s placed at =

@@ -9,6 +9,7 @@ ghost use Rattle.starlark_vec2.specs.Iter.{WalkShows, WalkShowsBack};
 
 mod collect;
 mod compare;
+mod debug;
 mod get_mut;
 mod growth;
 mod into_iter;

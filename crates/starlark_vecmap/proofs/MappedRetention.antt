@@ -16,6 +16,7 @@ module _ {F G X Y : Type 0} (calls : F → X → Bool → X → F → Type 0) (s
   folds c f [] f' e = ap st e
   folds c f (x ∷ xs) f' (u, (b, y, t), r) = (st u, (b, h y, c.at f x b y u t), folds c u xs f' r)
 
+  -- if the mapped closure may be asked about the images in turn, the closure may be asked about the items
   pub takes_carried : Carries → (asks : F → X → Type 0) (sees : G → Y → Type 0) → ((f : F) (x : X) → sees (st f) (h x) → asks f x)
       → (f : F) (xs : List X) → TakesInTurn seen sees (st f) (map h xs) → TakesInTurn calls asks f xs
   takes_carried c asks sees on f xs t = record {

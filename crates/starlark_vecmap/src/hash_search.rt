@@ -79,8 +79,8 @@ fn indices_of_long(array: &[u32], hash: u32) -> u64
     front + (u64::from(array[last] == hash) << last)
 }
 
-// `indices_of` for at most `SHORT` hashes. Two groups of four cover them. The second ends where the array does, and may
-// begin in the first; the bits of both count once.
+// `indices_of` for at most `SHORT` hashes. Two groups of four cover four to eight. The second ends where the array does, and
+// may begin in the first; the bits of both count once. Fewer are compared one by one.
 #[inline]
 fn indices_of_short(array: &[u32], hash: u32) -> u64
     requires { length array.now ≤ 8 }

@@ -99,10 +99,10 @@ impl<K, V> VecMap<K, V> {
         self.columns.capacity()
     }
 
-    /// The first index under the hash for whose key `accepts` returns true. It is called only with keys under this
-    /// hash, from the front, with each at most once, each time in the state that the call before left, until it returns
-    /// true. `None` means that it returned false for all of them. It must be possible to call it with those keys, in
-    /// the states that its refusals leave, and no more is required.
+    /// The first index under the hash whose key `accepts` accepts, or `None` if it refuses all keys under the hash. It is
+    /// called only on keys under the hash, from the front and at most once on each, until it accepts one. Each call finds
+    /// the state that the call before left. The call requires that `accepts` may be called on those keys, in any order, on
+    /// each after it refused those before.
     #[inline]
     pub fn get_index_of_hashed_raw<F: FnMut(&K) -> bool>(
         &self,

@@ -1,4 +1,4 @@
-//! Searches of a list through its index.
+//! Searches of a list through its hash index.
 ghost use Rattle.std.specs.Prelude.{◌≡◌, ◌<◌, Some, length, slice_get};
 ghost use Rattle.std.specs.Fn.{CalledAt, TakesAt};
 ghost use Rattle.starlark_hash.specs.Entries.{position_of};
@@ -30,7 +30,8 @@ impl Index {
         }
     }
 
-    /// The index of a single list under the query's hash whose key the query stands for.
+    /// The index under the query's hash whose key the query stands for. No two entries of the list have one hash and
+    /// equal keys.
     #[inline(always)]
     pub(crate) fn position_of<K: Eq, V, Q: Query<K>>(
         &self,
@@ -63,9 +64,9 @@ fn find_in<K, V, F: FnMut(&K) -> bool>(
     requires callable { CanSearch F.FnMut (keys_under hash entries.now.entries) eq }
     ensures { (last : F) × Searches F.FnMut (keys_under hash entries.now.entries) eq result last }
 {
-    // A hash is below 2^32, so no two have one promotion.
+    // A hash is below 2^32, so no two hashes have the same promotion.
     let _number = hash.get();
-    // Where the pairs lie is reckoned once, before the search.
+    // The address of the pairs is computed once, before the search.
     let pairs = entries.pairs();
     table.find(
         hash,

@@ -1,5 +1,5 @@
-//! The hashes of a list, and beside each the slot of its index in a table: what is taken out or moved is looked for
-//! nowhere. It sees no key.
+//! The hash index: a table of the indices of a list, each under its hash, and beside it the slot of each index. So no
+//! removal or move searches for its slot. The hash index sees no key.
 ghost use Rattle.std.specs.Prelude.{◌≡◌, ℕ, ◌+◌, ◌-◌, ◌^◌, ◌<◌, ◌≤◌, [], List, length, vec_capacity, IfOk, IsPermutation};
 ghost use Rattle.starlark_hash.specs.HashValue.{hash_number};
 ghost use Rattle.starlark_hash.specs.Search.{CanSearch, Searches};
@@ -20,14 +20,15 @@ use std::alloc::{AllocError, Global};
 use std::marker::Model;
 use std::mem;
 
-// The greatest length that an index is made for: what 2^32 slots may hold, so that 32 bits number the slots.
+// The greatest length that a hash index is made for. 2^32 slots hold as many members, so 32 bits number the slots.
 const LONGEST: usize = 13 << 28;
 
-// The greatest length up to which a larger table is filled from the list: its hashes are read in order there, and the slots
-// still lie in a processor's cache. A longer one is filled from the old slots, whose order is that of the new ones.
+// The greatest length up to which a larger table is filled from the list. The hashes are read in order there, and the
+// slots still fit a processor's cache. For a longer list the table is filled from the old slots, whose order is that of
+// the new.
 const FILLED_FROM_LIST: usize = 1 << 17;
 
-/// Each index of a list, under its hash of 32 bits, which stands for the promoted one.
+/// A table of the indices of a list. It stores each hash of 32 bits in place of its promotion.
 pub(super) type Indices = ReadyTable<u32, StarlarkHashValue>;
 
 /// The slot of each index.
@@ -45,11 +46,11 @@ impl Follows<u32> for Cells {
     }
 }
 
-/// The hashes of a list, in its order, each found by its index in a table. It is seen as their promotions, and its room.
+/// The hash index of a list. A contract sees the promoted hashes of the list, in order, and a room.
 #[derive(Drop)]
 pub(crate) struct HashTable {
     table: Indices,
-    // It has memory for as many indices as the table has room for.
+    // There is memory for as many cells as the table has room for.
     cells: Cells,
 }
 
@@ -66,7 +67,7 @@ impl Model for HashTable {
 }
 
 impl HashTable {
-    /// No hash, and room for this many, of which there are some.
+    /// No hash, and room for `capacity` hashes, of which there is one at least.
     pub(super) fn with_capacity(alloc: Global, capacity: usize) -> Result<Self, AllocError>
         requires { 0 < capacity }
         ensures empty { IfOk result (λ t. t.list ≡ []) }
@@ -92,7 +93,7 @@ impl HashTable {
         &self.table
     }
 
-    /// How many hashes there are.
+    /// The number of hashes.
     #[tactic(auto, using(crate::proofs::TableLengths::lengths))]
     #[inline]
     pub(super) fn len(&self) -> usize
@@ -101,7 +102,7 @@ impl HashTable {
         self.cells.0.len()
     }
 
-    /// How many further hashes surely need no memory.
+    /// How many further hashes certainly need no memory.
     #[inline]
     pub(super) fn room(&self) -> usize
         ensures { result ≡ self.now.room }
@@ -114,7 +115,7 @@ impl HashTable {
         self.len() <= UNINDEXED || self.len() > FILLED_FROM_LIST
     }
 
-    /// Makes room for this many hashes in all, which is more than there is.
+    /// Makes room for `needed` hashes in all, for which there is no room yet.
     pub(super) fn grow(&mut self, alloc: Global, needed: usize) -> Result<(), AllocError>
         requires { length self.old.list + self.old.room < needed }
         ensures { GrowsHashes needed self.old self.new result }
@@ -130,7 +131,7 @@ impl HashTable {
         Ok(())
     }
 
-    /// Puts this hash last. There is room for it.
+    /// Appends a hash, for which there is room.
     #[inline]
     pub(super) fn note(&mut self, hash: StarlarkHashValue)
         requires { 0 < self.old.room }
@@ -144,7 +145,7 @@ impl HashTable {
         self.cells.0.push_reserved(slot as u32);
     }
 
-    /// Puts this hash last if the first look at the slots shows that it is new, and there is room for it; else nothing changes.
+    /// Appends a hash if the first group shows that it is new, and there is room for it. Otherwise nothing changes.
     #[inline(always)]
     pub(super) fn note_new(&mut self, hash: StarlarkHashValue) -> bool
         ensures fits { hash_number hash < 2 ^ 32 }
@@ -164,7 +165,7 @@ impl HashTable {
         true
     }
 
-    /// Takes out the hash at this index. Those after it move up.
+    /// Removes the hash at this index. The index of each later hash falls by one.
     #[tactic(auto, using(crate::proofs::TableLengths::lengths))]
     #[inline(never)]
     pub(super) fn forget(&mut self, index: usize)
@@ -176,7 +177,7 @@ impl HashTable {
         self.cells.0.remove(index);
     }
 
-    /// Takes the last hash out.
+    /// Removes the last hash.
     #[tactic(auto, using(crate::proofs::TableLengths::lengths))]
     #[inline(always)]
     pub(super) fn forget_last(&mut self)
@@ -188,8 +189,8 @@ impl HashTable {
         self.cells.0.pop();
     }
 
-    /// Takes every hash out: one by one where they are so few that this takes fewer steps than there are slots, whatever
-    /// they are; else all at once.
+    /// Removes all hashes. Few hashes among many slots are removed one by one, since a pass over the slots takes
+    /// longer.
     pub(super) fn clear(&mut self)
         ensures { self.new ≡ cleared self.old }
     {
@@ -204,7 +205,7 @@ impl HashTable {
         }
     }
 
-    /// Puts each hash where `to` says that it goes.
+    /// Gives each hash the new index that `to` has at the old one.
     #[inline(never)]
     pub(super) fn rename(&mut self, to: &[u32])
         requires { (list : List ℕ) × Moves self.old.list to.now list }
@@ -215,7 +216,7 @@ impl HashTable {
         name_slots(&self.table, &mut self.cells.0);
     }
 
-    /// Puts the hashes into reverse order.
+    /// Reverses the order of the hashes.
     #[inline(never)]
     pub(super) fn reverse(&mut self)
         ensures { self.new ≡ reversed self.old }
@@ -224,7 +225,7 @@ impl HashTable {
         self.cells.0.reverse();
     }
 
-    /// An index of this hash that `eq` accepts. `eq` is asked about the indices of this hash alone, about each at most once,
+    /// An index of this hash that `eq` accepts. `eq` is called only on the indices of this hash, at most once on each,
     /// until it accepts one.
     #[inline(always)]
     pub(super) fn find<F: FnMut(&u32) -> bool>(

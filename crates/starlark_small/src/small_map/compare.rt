@@ -1,14 +1,13 @@
-//! How `SmallMap`s compare, what they feed to a hasher, and how they print.
+//! How `SmallMap`s compare, and what they feed to a hasher.
 ghost use Rattle.std.specs.Prelude.{◌≡◌, fold};
 ghost use Rattle.starlark_small.specs.Compare.{same_entries};
 ghost use Rattle.starlark_small.specs.CompareLaws.{same_entries_laws, same_entries_equivalence};
 ghost use Rattle.starlark_hash.specs.Compare.{same_ordered, ordered_feed};
 
 use super::SmallMap;
-use std::fmt;
 use std::hash::{Hash, Hasher};
 
-/// Maps are equal where they have as many entries, and each entry of one is found in the other by its hash and key,
+/// Two maps are equal if they have as many entries, and each entry of one is found in the other by its hash and key,
 /// with an equal value. The order does not count.
 impl<K: Eq, V: PartialEq> PartialEq for SmallMap<K, V> {
     ghost eq = { λ m n. same_entries K.eq V.eq m.entries n.entries };
@@ -49,20 +48,13 @@ impl<K: Eq, V> SmallMap<K, V> {
         self.entries.eq_ordered(&other.entries)
     }
 
-    /// Writes each entry's hash as one number of 32 bits, and then what its value writes; no length, and no key, whose
-    /// own `hash` is not called.
+    /// Feeds each entry's hash as one number of 32 bits, and then what its value feeds. The length and the keys are not
+    /// fed, and no key's `hash` is called.
     pub fn hash_ordered<H: Hasher>(&self, state: &mut H)
     where
         V: Hash,
         ensures { state.new ≡ fold H.write state.old (ordered_feed V.hash_input self.now.entries) }
     {
         self.entries.hash_ordered(state);
-    }
-}
-
-impl<K: Eq + fmt::Debug, V: fmt::Debug> fmt::Debug for SmallMap<K, V> {
-    /// Writes the entries in order of insertion, as `{key: value, ..}`. Hashes, capacity and index are not written.
-    fn fmt<W: fmt::Write>(&self, f: &mut fmt::Formatter<W>) -> fmt::Result {
-        f.debug_map().entries(self.iter()).finish()
     }
 }

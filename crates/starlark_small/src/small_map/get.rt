@@ -1,4 +1,4 @@
-//! What a `SmallMap` has: entries by hash and key, by key alone under its own hash, and by index.
+//! Look-ups in a `SmallMap`: by a precomputed hash and a query, by a query under its own hash, and by index.
 ghost use Rattle.std.specs.List.{IsAmong};
 ghost use Rattle.std.specs.Prelude.{◌≡◌, ◌-◌, ◌<◌, slice_get, length, is_some, map, IfSome, IsTrue, Some};
 ghost use Rattle.std.specs.Map.Iter.{deref_pair};
@@ -65,9 +65,9 @@ impl<K: Eq, V> SmallMap<K, V> {
         self.index.position_of(&self.entries, key)
     }
 
-    /// An index under this hash whose key `eq` accepts. It is asked about the keys under this hash alone, about each at
-    /// most once and in no promised order, its state carried on, until it accepts one; `None` says that it refused them
-    /// all. Required is no more than that it may be called on those keys, in the states that its refusals leave.
+    /// An index under this hash whose key `eq` accepts. `eq` is called only on the keys under this hash, at most once
+    /// on each and in no promised order, until it accepts one; `None` says that it refused them all. The call requires
+    /// only that `eq` may be called on those keys, in the states that its refusals leave.
     #[inline]
     pub fn find_by_hash<F: FnMut(&K) -> bool>(
         &self,
@@ -102,7 +102,8 @@ impl<K: Eq, V> SmallMap<K, V> {
         self.get_index_of_hashed(key).is_some()
     }
 
-    /// Whether an entry under this hash has a key that is equivalent to the query, which is passed by value and dropped.
+    /// Whether an entry under this hash has a key that is equivalent to the query, which is passed by value and
+    /// dropped.
     #[inline]
     pub fn contains_key_hashed_by_value<Q: Equivalent<K> + Drop>(&self, key: Hashed<Q>) -> bool
         // Whether something is found; then the query stands for one of the map's keys.
@@ -152,7 +153,7 @@ impl<K: Eq, V> SmallMap<K, V> {
         self.contains_key_hashed(Hashed::new(key))
     }
 
-    /// The key and the value at an index; `None` past the end.
+    /// The key and the value at an index, or `None` past the end.
     #[inline]
     pub fn get_index(&self, index: usize) -> Option<(&K, &V)>
         ensures { option_map deref_pair result ≡ option_map pair_of (slice_get self.now.entries index) }

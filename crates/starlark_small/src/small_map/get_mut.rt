@@ -1,4 +1,4 @@
-//! A value of a `SmallMap` to be written. Its key and its hash stay.
+//! Values of a `SmallMap` for writing.
 ghost use Rattle.std.specs.Prelude.{◌≡◌, ◌<◌, length, map, IfSome, Some};
 ghost use Rattle.std.specs.Borrow.{sem};
 ghost use Rattle.std.specs.Option.{option_copied_mut};
@@ -14,8 +14,8 @@ use starlark_hash::{Hashed, Query};
 use std::hash::Hash;
 
 impl<K: Eq, V> SmallMap<K, V> {
-    /// The value under this hash whose key the query stands for, to be written. The map ends with what is left in it,
-    /// and all else stays. `None` where there is no such entry, and then the map is as it was.
+    /// The value under this hash whose key the query stands for, for writing. The map ends with what is left in it, and
+    /// all else is unchanged. Without such an entry the call returns `None`, and the map is unchanged.
     #[inline(always)]
     pub fn get_mut_hashed<Q: Query<K>>(&mut self, key: Hashed<Q>) -> Option<&mut V>
         // What the map is once the reference has ended.
@@ -30,8 +30,8 @@ impl<K: Eq, V> SmallMap<K, V> {
         }
     }
 
-    /// The value under the query's own hash whose key the query stands for, to be written. The map ends with what is
-    /// left in it, and all else stays. `None` where there is no such entry, and then the map is as it was.
+    /// The value under the query's own hash whose key the query stands for, for writing. The map ends with what is left
+    /// in it, and all else is unchanged. Without such an entry the call returns `None`, and the map is unchanged.
     #[inline(always)]
     pub fn get_mut<Q: Query<K> + Hash>(&mut self, key: Q) -> Option<&mut V>
         // What the map is once the reference has ended.
@@ -43,9 +43,10 @@ impl<K: Eq, V> SmallMap<K, V> {
         self.get_mut_hashed(Hashed::new(key))
     }
 
-    // The value at an index, to be written.
+    /// The value at an index, for writing. The map ends with what is left in it, and all else is unchanged. The call is
+    /// for the layer above, which has the index from a look-up.
     #[inline]
-    pub(crate) fn value_at_mut(&mut self, index: usize) -> &mut V
+    pub fn value_at_mut(&mut self, index: usize) -> &mut V
         requires { index < length self.old.entries }
         ensures* writes_back { sem 𝓛 (lends_value K.row V.row K.PartialEq self.entry index result) }
         ensures value { value_at self.old.entries (Some index) ≡ Some result.now }

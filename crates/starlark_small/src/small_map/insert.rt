@@ -20,7 +20,7 @@ use std::mem;
 
 impl<K: Eq, V> SmallMap<K, V> {
     /// Inserts a value under the key's own hash. If the key is there, its index and its stored key stay, its value is
-    /// replaced, and the old value is returned; a new key is appended. Only a new key is refused, where there is no room
+    /// replaced, and the old value is returned; a new key is appended. Only a new key is refused, if there is no room
     /// and no memory is found.
     #[inline(always)]
     pub fn insert(&mut self, key: K, value: V) -> Result<Option<V>, NoRoom<(K, V)>>
@@ -47,10 +47,10 @@ impl<K: Eq, V> SmallMap<K, V> {
     }
 
     /// Inserts a value under a precomputed hash. If the key is there, its index and its stored key stay, its value is
-    /// replaced, and the old value is returned; a new key is appended. Only a new key is refused, where there is no
-    /// room and no memory is found. With room to spare, capacity and index stay. Otherwise the capacity grows as that
-    /// of a `Vec2` does, and may have grown where the key is refused; a second refusal grows it no further. There is an
-    /// index afterwards exactly where there was one, or where the list is now longer than `UNINDEXED`. Length plus room
+    /// replaced, and the old value is returned; a new key is appended. Only a new key is refused, if there is no room
+    /// and no memory is found. With room to spare, capacity and hash index stay. Otherwise the capacity grows as that
+    /// of a `Vec2` does. It may have grown also if the key is refused; a second refusal grows it no further. There is a
+    /// hash index afterwards exactly if there was one, or if the list is now longer than `UNINDEXED`. Length plus room
     /// never falls.
     #[inline(always)]
     pub fn insert_hashed(
@@ -74,7 +74,7 @@ impl<K: Eq, V> SmallMap<K, V> {
         // Done or refused: no room is lost, and with room to spare no memory is asked for.
         ensures memory { LeavesMemory K.eq self.old self.new key }
     {
-        // Mostly one look at the index shows that the key is new, and the only one.
+        // The first group of the hash index mostly shows that the key is new.
         let spare = self.entries.capacity() - self.entries.len();
         if self.index.note_new(key.hash(), spare) {
             self.entries.push_reserved(key, value);
@@ -83,7 +83,7 @@ impl<K: Eq, V> SmallMap<K, V> {
         self.insert_by_search(key, value)
     }
 
-    // Inserts by a search for the key. It is a call, so that only the look at the index is inlined.
+    // Inserts by a search for the key. It is not inlined: of an insertion, only the test of the first group is.
     #[inline(never)]
     fn insert_by_search(
         &mut self,
@@ -117,8 +117,8 @@ impl<K: Eq, V> SmallMap<K, V> {
     }
 
     /// Appends a new key under its own hash, without a look-up, and lends it with its value. The map ends with what is
-    /// left in the value. The key is refused where there is no room and no memory is found: then entries and index are
-    /// unchanged.
+    /// left in the value. The key is refused if there is no room and no memory is found: then entries and hash index
+    /// are unchanged.
     pub fn insert_unique_unchecked(
         &mut self,
         key: K,
@@ -136,8 +136,8 @@ impl<K: Eq, V> SmallMap<K, V> {
     }
 
     /// Appends a key that is new under a precomputed hash, without a look-up, and lends it with its value. The map ends
-    /// with what is left in the value. The key is refused where there is no room and no memory is found: then entries and
-    /// index are unchanged. Capacity, room and index are left as `insert_hashed` leaves them.
+    /// with what is left in the value. The key is refused if there is no room and no memory is found: then entries and
+    /// hash index are unchanged. Capacity, room and hash index become what `insert_hashed` makes of them.
     pub fn insert_hashed_unique_unchecked(
         &mut self,
         key: Hashed<K>,
@@ -155,22 +155,22 @@ impl<K: Eq, V> SmallMap<K, V> {
         }
     }
 
-    /// Appends a new key under its own hash, without a look-up, and returns its index. It is refused where there is no
-    /// room and no memory is found. Rust's crate has no such call: `insert_unique_unchecked` lends the entry, and this
-    /// call returns a number, so that more can be said of it.
+    /// Appends a new key under its own hash, without a look-up, and returns its index. The key is refused if there is
+    /// no room and no memory is found. Rust's crate has no such call. It is here since a contract can say more of an
+    /// index than of the entry that `insert_unique_unchecked` lends.
     pub fn push_own(&mut self, key: K, value: V) -> Result<usize, NoRoom<(K, V)>>
     where
         K: Hash,
         requires { get K.eq K.hash_input self.old key ≡ None }
-        // Done: the index of the new entry comes back, which is the last; its key has the value, and every other key has
-        // what it had.
+        // Done: the index of the new entry comes back, which is the last; its key has the value, and every other key
+        // has what it had.
         ensures index { IfOk result (λ i. i ≡ length self.old.entries) }
         ensures inserted { OnOk result (IsInserted self.old self.new (own_hashed K.hash_input key) value) }
         ensures updates { OnOk result (Updates K.eq K.hash_input self.old self.new key (Some value)) }
         // Keys that are under their own hashes stay so, also where this one is refused.
         ensures own { AreOwn K.hash_input self.old → AreOwn K.hash_input self.new }
-        // Refused: only without room. Key and value come back, and entries and index are unchanged; the capacity may have
-        // grown.
+        // Refused: only without room. Key and value come back, and entries and index are unchanged; the capacity may
+        // have grown.
         ensures refused { OnErr result (IsRefused self.old self.new) }
         ensures full { OnErr result (self.old.room ≡ 0) }
         ensures handed_back { IfErr result (λ refused. refused.0 ≡ (key, value)) }
@@ -181,25 +181,25 @@ impl<K: Eq, V> SmallMap<K, V> {
         }
     }
 
-    /// Appends a key that is new under a precomputed hash, without a look-up, and returns its index. It is refused where
-    /// there is no room and no memory is found.
+    /// Appends a key that is new under a precomputed hash, without a look-up, and returns its index. The key is refused
+    /// if there is no room and no memory is found.
     pub fn push(&mut self, key: Hashed<K>, value: V) -> Result<usize, NoRoom<(Hashed<K>, V)>>
         requires { found (K.eq (key_of key)) (hash_of key) self.old.entries ≡ None }
-        // Done: the index of the new entry comes back, which is the last; its key has the value, and every other key has
-        // what it had.
+        // Done: the index of the new entry comes back, which is the last; its key has the value, and every other key
+        // has what it had.
         ensures index { IfOk result (λ i. i ≡ length self.old.entries) }
         ensures inserted { OnOk result (IsInserted self.old self.new key value) }
         ensures updates { OnOk result (Writes K.eq (K.eq (key_of key)) (hash_of key) self.old.entries self.new.entries (Some value)) }
         // Keys that are under their own hashes stay so, also where this one is refused.
         ensures own { (feeds : K → HashWrites) → hash_of key ≡ own_hash feeds (key_of key) → AreOwn feeds self.old → AreOwn feeds self.new }
-        // Refused: only without room. Key and value come back, and entries and index are unchanged; the capacity may have
-        // grown.
+        // Refused: only without room. Key and value come back, and entries and index are unchanged; the capacity may
+        // have grown.
         ensures refused { OnErr result (IsRefused self.old self.new) }
         ensures full { OnErr result (self.old.room ≡ 0) }
         ensures handed_back { IfErr result (λ refused. refused.0 ≡ (key, value)) }
     {
         prove!(self.index().is_some() || self.len() <= UNINDEXED);
-        // memory for the list and for the index is had before the entry is stored
+        // Memory for the list and for the hash index is obtained before the entry is stored.
         if let Err(_) = self.reserve(1) {
             return Err(NoRoom((key, value)));
         }
@@ -209,7 +209,7 @@ impl<K: Eq, V> SmallMap<K, V> {
         Ok(index)
     }
 
-    // The key and the value at an index, the value to be written.
+    // The key and the value at an index, the value for writing.
     #[inline]
     pub(crate) fn entry_mut(&mut self, index: usize) -> (&K, &mut V)
         requires { index < length self.old.entries }
@@ -221,7 +221,7 @@ impl<K: Eq, V> SmallMap<K, V> {
     }
 }
 
-// The answer of an insertion, in which a refused key comes back without its hash.
+// The result of an insertion, with a refused key that comes back without its hash.
 fn without_hash<T, K, V>(answer: Result<T, NoRoom<(Hashed<K>, V)>>) -> Result<T, NoRoom<(K, V)>>
     ensures { result ≡ unhashed answer }
 {

@@ -1,4 +1,4 @@
-//! The walks of a `SmallMap`: those that lend its entries, write its values, and take it apart.
+//! The iterators of a `SmallMap`: those that lend its entries, those that write its values, and those that consume it.
 ghost use Rattle.std.specs.Prelude.{◌≡◌, ◌^◌, ◌<◌, length, map};
 ghost use Rattle.std.specs.Map.{values_of};
 ghost use Rattle.std.specs.Map.Iter.{deref, deref_pair};
@@ -20,7 +20,7 @@ impl<K: Eq, V> SmallMap<K, V> {
     pub fn keys(&self) -> Keys<'_, K, V>
         ensures keys { result ≡ map entry_key self.now.entries }
         ensures runs { ShowsEach self.now.entries result (deref {X = K}) }
-        // No two have the same hash and equal keys; so no two keys are equal, where each is under its own hash.
+        // No two entries have the same hash and equal keys. So no two keys are equal if each is under its own hash.
         ensures single { IsSingle K.eq self.now.entries }
         ensures distinct { HasDistinctKeys K.eq self.now }
     {
@@ -34,7 +34,7 @@ impl<K: Eq, V> SmallMap<K, V> {
     pub fn values(&self) -> Values<'_, K, V>
         ensures values { result ≡ map entry_value self.now.entries }
         ensures runs { ShowsValues K.eq self.now.entries result }
-        // No two have the same hash and equal keys; so no two keys are equal, where each is under its own hash.
+        // No two entries have the same hash and equal keys. So no two keys are equal if each is under its own hash.
         ensures single { IsSingle K.eq self.now.entries }
         ensures distinct { HasDistinctKeys K.eq self.now }
     {
@@ -49,7 +49,7 @@ impl<K: Eq, V> SmallMap<K, V> {
         ensures pairs { result ≡ map pair_of self.now.entries }
         ensures values { values_of result ≡ map entry_value self.now.entries }
         ensures runs { ShowsEach self.now.entries result (deref_pair {K = K} {X = V}) }
-        // No two have the same hash and equal keys; so no two keys are equal, where each is under its own hash.
+        // No two entries have the same hash and equal keys. So no two keys are equal if each is under its own hash.
         ensures single { IsSingle K.eq self.now.entries }
         ensures distinct { HasDistinctKeys K.eq self.now }
     {
@@ -57,20 +57,20 @@ impl<K: Eq, V> SmallMap<K, V> {
         self.entries.iter()
     }
 
-    /// The entries in order of insertion, each key under its hash. No two have the same hash and equal keys.
+    /// The entries in order of insertion, each key with its hash.
     #[inline]
     pub fn iter_hashed(&self) -> IterHashed<'_, K, V>
         ensures entries { result ≡ self.now.entries }
         ensures runs { ShowsEach self.now.entries result (deref_entry {K = K} {V = V}) }
-        // No two have the same hash and equal keys; so no two keys are equal, where each is under its own hash.
+        // No two entries have the same hash and equal keys. So no two keys are equal if each is under its own hash.
         ensures single { IsSingle K.eq self.now.entries }
         ensures distinct { HasDistinctKeys K.eq self.now }
     {
         self.entries.iter_hashed()
     }
 
-    /// The keys and values in order of insertion, to write the values. The map ends with what is left in them; keys,
-    /// hashes, order, room, capacity and index stay.
+    /// The keys and values in order of insertion, for writing the values. The map ends with what is left in the values,
+    /// and all else is unchanged.
     #[inline]
     pub fn iter_mut(&mut self) -> IterMut<'_, K, V>
         ensures* writes_back { sem 𝓛 (values_follow K.row V.row K.PartialEq self.entry result.1) }
@@ -81,8 +81,8 @@ impl<K: Eq, V> SmallMap<K, V> {
         self.entries.iter_mut()
     }
 
-    /// The values in order of insertion, to write them. The map ends with what is left in them; keys, hashes, order,
-    /// room, capacity and index stay.
+    /// The values in order of insertion, for writing. The map ends with what is left in them, and all else is
+    /// unchanged.
     #[tactic(auto, using(starlark_vecmap::proofs::WrittenValues::written))]
     #[inline]
     pub fn values_mut(&mut self) -> ValuesMut<'_, K, V>
@@ -96,7 +96,7 @@ impl<K: Eq, V> SmallMap<K, V> {
 }
 
 impl<K: Eq + Drop, V: Drop> SmallMap<K, V> {
-    /// The keys by value, in order of insertion. Each value is dropped with its step, the others with the iterator.
+    /// The keys by value, in order of insertion. A step drops the value of its key, and the iterator drops the rest.
     #[tactic(auto, using(crate::proofs::CallerIter::walked))]
     #[inline]
     pub fn into_keys(self) -> IntoKeys<K, V>
@@ -110,7 +110,7 @@ impl<K: Eq + Drop, V: Drop> SmallMap<K, V> {
         entries.into_keys()
     }
 
-    /// The values by value, in order of insertion. Each key is dropped with its step, the others with the iterator.
+    /// The values by value, in order of insertion. A step drops the key of its value, and the iterator drops the rest.
     #[tactic(auto, using(crate::proofs::CallerIter::walked))]
     #[inline]
     pub fn into_values(self) -> IntoValues<K, V>
@@ -124,7 +124,7 @@ impl<K: Eq + Drop, V: Drop> SmallMap<K, V> {
         entries.into_values()
     }
 
-    /// The entries by value, in order of insertion, each key under its hash. No two have the same hash and equal keys.
+    /// The entries by value, in order of insertion, each key with its hash.
     #[inline]
     pub fn into_iter_hashed(self) -> IntoIterHashed<K, V>
         ensures entries { result ≡ self.entries }
@@ -185,7 +185,7 @@ impl<'a, K: Eq, V> IntoIterator for &'a mut SmallMap<K, V> {
 
     ghost into_iter_gives = { λ m rest. (rest.0 ≡ map pair_of m.now.entries) × (length m.now.entries < 2 ^ 64) };
 
-    /// The keys and values in order of insertion, to write the values, as `iter_mut` gives them.
+    /// The keys and values in order of insertion, for writing the values, as by `iter_mut`.
     #[inline]
     fn into_iter(self) -> IterMut<'a, K, V>
         ensures* writes_back { sem 𝓛 (values_follow K.row V.row K.PartialEq self.entry result.1) }

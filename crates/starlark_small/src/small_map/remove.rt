@@ -1,4 +1,4 @@
-//! What takes entries out of a `SmallMap`. None of it asks for memory.
+//! Removals from a `SmallMap`. None of them asks for memory.
 ghost use Rattle.std.specs.Hash.{HashWrites};
 ghost use Rattle.std.specs.Prelude.{◌≡◌, ◌+◌, ◌-◌, ◌<◌, [], slice_get, length, if◌then◌else◌, is_some, IfSome, Some};
 ghost use Rattle.std.specs.Option.{option_map};
@@ -15,8 +15,8 @@ use starlark_hash::{Hashed, Query};
 use std::hash::Hash;
 
 impl<K: Eq, V> SmallMap<K, V> {
-    /// Removes the entry under this hash whose key the query stands for, drops its key and answers its value. Those
-    /// after it move up. Capacity and index stay.
+    /// Removes the entry under this hash whose key the query stands for, drops its key and returns its value. The index
+    /// of each later entry falls by one. Capacity and hash index stay.
     #[tactic(auto, using(crate::proofs::CallerLookup::look_ups))]
     pub fn shift_remove_hashed<Q: Query<K>>(&mut self, key: Hashed<Q>) -> Option<V>
     where
@@ -30,8 +30,8 @@ impl<K: Eq, V> SmallMap<K, V> {
         Some(value)
     }
 
-    /// Removes the entry under this hash whose key the query stands for, and answers its key and value. Those after it
-    /// move up. Capacity and index stay.
+    /// Removes the entry under this hash whose key the query stands for, and returns its key and value. The index of
+    /// each later entry falls by one. Capacity and hash index stay.
     #[tactic(auto, using(crate::proofs::CallerLookup::look_ups, crate::proofs::CallerRemove::removed))]
     pub fn shift_remove_hashed_entry<Q: Query<K>>(&mut self, key: Hashed<Q>) -> Option<(K, V)>
         // The key and the value that were found come back.
@@ -45,8 +45,9 @@ impl<K: Eq, V> SmallMap<K, V> {
         Some((key.into_key(), value))
     }
 
-    /// Removes the entry under the query's own hash whose key the query stands for, drops its key and answers its
-    /// value. The index of each later one falls by one; without such an entry nothing changes. Capacity and index stay.
+    /// Removes the entry under the query's own hash whose key the query stands for, drops its key and returns its
+    /// value. The index of each later entry falls by one. Without such an entry nothing changes. Capacity and hash
+    /// index stay.
     #[inline]
     pub fn shift_remove<Q: Query<K> + Hash>(&mut self, key: Q) -> Option<V>
     where
@@ -59,8 +60,8 @@ impl<K: Eq, V> SmallMap<K, V> {
         self.shift_remove_hashed(Hashed::new(key))
     }
 
-    /// Removes the entry under the query's own hash whose key the query stands for, and answers its key and value. The
-    /// index of each later one falls by one. Capacity and index stay.
+    /// Removes the entry under the query's own hash whose key the query stands for, and returns its key and value. The
+    /// index of each later entry falls by one. Capacity and hash index stay.
     #[inline]
     pub fn shift_remove_entry<Q: Query<K> + Hash>(&mut self, key: Q) -> Option<(K, V)>
         // The key and the value that were found come back.
@@ -72,10 +73,10 @@ impl<K: Eq, V> SmallMap<K, V> {
         self.shift_remove_hashed_entry(Hashed::new(key))
     }
 
-    /// Removes the entry at an index, and answers its key and value. The index of each later one falls by one. Capacity
-    /// and index stay.
+    /// Removes the entry at an index, and returns its key and value, or `None` past the end. The index of each later
+    /// entry falls by one. Capacity and hash index stay.
     pub fn shift_remove_index(&mut self, index: usize) -> Option<(K, V)>
-        // What was at the index comes back, if there was something: the key has it no more, and there is one entry less.
+        // The entry that was at the index comes back; there is one entry less.
         ensures taken { result ≡ option_map pair_of (slice_get self.old.entries index) }
         ensures takes { IfSome result (λ p. TakesOut K.eq self.old self.new p.0 p.1) }
         ensures count { length self.old.entries ≡ length self.new.entries + (if is_some result then 1 else 0) }
@@ -86,11 +87,11 @@ impl<K: Eq, V> SmallMap<K, V> {
         Some((key.into_key(), value))
     }
 
-    /// Removes the entry at an index, and answers it. The index of each later one falls by one. Capacity and index
-    /// stay.
+    /// Removes the entry at an index, and returns it, or `None` past the end. The index of each later entry falls by
+    /// one. Capacity and hash index stay.
     #[tactic(auto, using(std::proofs::lemmas::Grind::common_steps, std::proofs::lemmas::Option::slice_get_past))]
     pub fn shift_remove_index_hashed(&mut self, index: usize) -> Option<(Hashed<K>, V)>
-        // What was at the index comes back, if there was something: the key has it no more, and there is one entry less.
+        // The entry that was at the index comes back; there is one entry less.
         ensures taken { result ≡ slice_get self.old.entries index }
         ensures takes { IfSome (option_map pair_of result) (λ p. TakesOut K.eq self.old self.new p.0 p.1) }
         ensures count { length self.old.entries ≡ length self.new.entries + (if is_some result then 1 else 0) }
@@ -104,9 +105,9 @@ impl<K: Eq, V> SmallMap<K, V> {
         }
     }
 
-    /// Removes the last entry, and answers its key and value. Capacity and index stay.
+    /// Removes the last entry, and returns its key and value, or `None` if there is none. Capacity and hash index stay.
     pub fn pop(&mut self) -> Option<(K, V)>
-        // What was at the index comes back, if there was something: the key has it no more, and there is one entry less.
+        // Key and value of the last entry come back; there is one entry less. Without entries nothing changes.
         ensures taken { result ≡ option_map pair_of (slice_get self.old.entries (length self.old.entries - 1)) }
         ensures takes { IfSome result (λ p. TakesOut K.eq self.old self.new p.0 p.1) }
         ensures count { length self.old.entries ≡ length self.new.entries + (if is_some result then 1 else 0) }
@@ -117,7 +118,7 @@ impl<K: Eq, V> SmallMap<K, V> {
         Some((key.into_key(), value))
     }
 
-    /// Removes each entry. Capacity and index stay for those to come.
+    /// Removes all entries. Capacity and hash index stay for later ones.
     #[tactic(auto, using(std::proofs::lemmas::Grind::common_steps, crate::proofs::CallerOwn::emptied))]
     pub fn clear(&mut self)
     where
@@ -135,7 +136,7 @@ impl<K: Eq, V> SmallMap<K, V> {
         self.entries.clear();
     }
 
-    // Takes out the entry at an index. The index of each later one falls by one.
+    // Removes the entry at an index. The index of each later entry falls by one.
     fn take_at(&mut self, index: usize) -> (Hashed<K>, V)
         requires { index < length self.old.entries }
         ensures taken { slice_get self.old.entries index ≡ Some result }
@@ -148,7 +149,7 @@ impl<K: Eq, V> SmallMap<K, V> {
         self.entries.remove(index)
     }
 
-    // Takes out the last entry.
+    // Removes the last entry.
     #[inline]
     fn take_last(&mut self) -> Option<(Hashed<K>, V)>
         ensures taken { result ≡ slice_get self.old.entries (length self.old.entries - 1) }

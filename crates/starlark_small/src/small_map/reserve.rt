@@ -1,4 +1,4 @@
-//! What makes room in a `SmallMap`, and what drops its index.
+//! `SmallMap::reserve` and `maybe_drop_index`.
 ghost use Rattle.std.specs.Prelude.{◌<◌, ◌≡◌, ◌+◌, ◌-◌, ◌≤◌, false, min, nat_le, length, if◌then◌else◌};
 ghost use Rattle.starlark_small.specs.Memory.{Reserves};
 ghost use Rattle.starlark_small.specs.Index.{unindexed};
@@ -8,22 +8,23 @@ use crate::index::UNINDEXED;
 use std::alloc::AllocError;
 
 impl<K: Eq, V> SmallMap<K, V> {
-    /// Makes room for so many new entries. Where the room is there it asks for no memory and changes nothing. A refusal
-    /// leaves entries and index. The capacity grows as that of a `Vec2` does, and may have grown where the rest is
-    /// refused: a second refusal grows it no further. Where nothing is refused, there is an index exactly where there
-    /// was one, or where the length asked for is above `UNINDEXED`. Length plus room never falls.
+    /// Makes room for `additional` new entries. If there is room already, it asks for no memory and changes nothing.
+    /// The capacity grows as that of a `Vec2` does. Afterwards there is a hash index exactly if there was one, or if
+    /// the length asked for is above `UNINDEXED`. A refusal leaves entries and hash index unchanged. The capacity may
+    /// then have grown; a second refusal grows it no further. Length plus room never falls.
     #[inline]
     pub fn reserve(&mut self, additional: usize) -> Result<(), AllocError>
         ensures reserves { Reserves additional self.old self.new result }
     {
-        if additional <= self.room() {
-            prove!(additional <= self.entries.capacity() - self.entries.len());
+        // Two tests take fewer instructions than one of the room, which is the smaller of two numbers.
+        let len = self.entries.len();
+        if additional <= self.entries.capacity() - len && additional <= self.index.room(len) {
             return Ok(());
         }
         self.grow(additional)
     }
 
-    // The part of `reserve` that asks for memory, apart so that the test is inlined.
+    // The part of `reserve` that asks for memory. It is not inlined, so that only the test is.
     #[cold]
     #[inline(never)]
     fn grow(&mut self, additional: usize) -> Result<(), AllocError>
@@ -34,9 +35,9 @@ impl<K: Eq, V> SmallMap<K, V> {
         self.index.reserve(&self.entries, additional)
     }
 
-    /// Drops the index where the list is short enough to do without, and does nothing where it is longer than
-    /// `UNINDEXED`. Length plus room is then at least the smaller of what it was and `UNINDEXED`. In no other call does
-    /// it fall, and no other call drops the index.
+    /// Drops the hash index of a list that is no longer than `UNINDEXED`. A longer list keeps it, and nothing changes.
+    /// Length plus room is then at least the smaller of what it was and `UNINDEXED`. No other call lowers this sum, and
+    /// no other call drops the hash index.
     pub fn maybe_drop_index(&mut self)
         ensures entries { self.new.entries ≡ self.old.entries }
         ensures capacity { self.new.capacity ≡ self.old.capacity }

@@ -1,6 +1,6 @@
 //! The order of a `SmallMap`'s entries.
-ghost use Rattle.std.specs.Prelude.{◌≡◌, reverse, true, false, OnErr, OnOk};
-ghost use Rattle.starlark_hash.specs.Sort.{sorted_by_key};
+ghost use Rattle.std.specs.Prelude.{◌≡◌, reverse, true, false, IsOk, OnErr, OnOk};
+ghost use Rattle.starlark_hash.specs.Sort.{Ascends, sorted_by_key};
 ghost use Rattle.starlark_small.specs.Sort.{SortsByKey, Turns};
 ghost use Rattle.starlark_small.specs.Index.{IndexFollows, IsIndexed};
 ghost use Rattle.starlark_vecmap.specs.EntryList.{with_entries};
@@ -11,21 +11,17 @@ use starlark_vecmap::VecMap;
 use std::alloc::AllocError;
 
 impl<K: Eq, V> SmallMap<K, V> {
-    /// Sorts by key; entries with equal keys keep their order. Where the keys ascend already it asks for no memory, and
-    /// neither list nor index is touched. A refusal leaves the entries as they were. Capacity and
-    /// index stay.
+    /// Sorts the entries by key. Those with equal keys keep their order. If the keys ascend already, nothing changes,
+    /// and no memory is asked for. If memory is refused, the entries are unchanged. Capacity and hash index stay.
     pub fn sort_keys(&mut self) -> Result<(), AllocError>
     where
         K: Ord,
         ensures { SortsByKey K.eq K.cmp self.old self.new result }
     {
-        if self.entries.is_sorted_by_key() {
-            return Ok(());
-        }
         sort_indexed(&mut self.entries, &mut self.index)
     }
 
-    /// Reverses the order of the entries. Capacity and index stay.
+    /// Reverses the order of the entries. Capacity and hash index stay.
     pub fn reverse(&mut self)
         ensures { Turns K.eq self.old self.new }
     {
@@ -33,13 +29,21 @@ impl<K: Eq, V> SmallMap<K, V> {
     }
 }
 
-// Sorts a list by key, and its index with it.
+// Sorts a list by key, and its hash index with it. Without a hash index, the list's own sort asks whether the keys
+// ascend.
 fn sort_indexed<K: Ord, V>(entries: &mut VecMap<K, V>, index: &mut Index) -> Result<(), AllocError>
     requires { IsIndexed entries.old.entries index.old }
     ensures sorted { OnOk result (entries.new ≡ with_entries entries.old (sorted_by_key K.cmp entries.old.entries)) }
     ensures unchanged { OnErr result ((entries.new ≡ entries.old) × (index.new ≡ index.old)) }
+    ensures at_once { Ascends K.cmp entries.old.entries → IsOk result × (entries.new ≡ entries.old) × (index.new ≡ index.old) }
     ensures follows { IndexFollows entries.old index.old entries.new index.new }
 {
+    if index.table().is_none() {
+        return entries.sort_keys();
+    }
+    if entries.is_sorted_by_key() {
+        return Ok(());
+    }
     if sort_and_rename(entries, index) {
         return Ok(());
     }
@@ -49,8 +53,8 @@ fn sort_indexed<K: Ord, V>(entries: &mut VecMap<K, V>, index: &mut Index) -> Res
     Ok(())
 }
 
-// Sorts in one pass over the index, without a hash, where there is an index that is dense and the list reports its moves.
-// Returns `false`, and changes nothing, where one of these is missing.
+// Sorts the list, and writes the new indices into the hash index in one pass over its slots. Returns `false`, and
+// changes nothing, if there is no dense hash index, or if memory for the moves is refused.
 fn sort_and_rename<K: Ord, V>(entries: &mut VecMap<K, V>, index: &mut Index) -> bool
     requires { IsIndexed entries.old.entries index.old }
     ensures sorted { result ≡ true → entries.new ≡ with_entries entries.old (sorted_by_key K.cmp entries.old.entries) }
@@ -67,7 +71,7 @@ fn sort_and_rename<K: Ord, V>(entries: &mut VecMap<K, V>, index: &mut Index) -> 
     true
 }
 
-// Reverses a list, and its index with it.
+// Reverses a list, and its hash index with it.
 fn reverse_indexed<K, V>(entries: &mut VecMap<K, V>, index: &mut Index)
     requires { IsIndexed entries.old.entries index.old }
     ensures entries { entries.new ≡ with_entries entries.old (reverse entries.old.entries) }

@@ -10,9 +10,9 @@ use std::alloc::{AllocError, Global};
 use std::hash::Hash;
 
 impl<K: Eq + Hash + Drop, V: Drop> UnorderedMap<K, V> {
-    /// A map of the items, inserted in their order by `insert`. It begins with room for the lower bound of the iterator's
-    /// `size_hint`. If memory is refused, nothing is made and the items are dropped. It is not refused if there are no
-    /// items. The iterator must end.
+    /// A map of the items, inserted in their order by `insert`. It begins with room for the lower bound of the
+    /// iterator's `size_hint`. If memory is refused, nothing is made and the items are dropped. It is not refused if
+    /// there are no items. The call requires that the iterator's type bounds its items.
     pub fn from_iter<I: IntoIterator<Item = (K, V)>>(
         alloc: Global,
         iter: I,

@@ -1,4 +1,4 @@
-//! `==`, `Hash` and `Debug` of an `UnorderedMap`.
+//! `==` and `Hash` of an `UnorderedMap`.
 ghost use Rattle.std.specs.Prelude.{◌≡◌, ◌%◌, ◌^◌, Some, length};
 ghost use Rattle.std.specs.Cmp.{on_equiv, on_per, partial_equiv_from_equiv};
 ghost use Rattle.std.specs.List.{list_all};
@@ -10,7 +10,6 @@ ghost use Rattle.starlark_unordered.specs.Pairs.{pairs_of, pair_eq, has_equal, h
 use super::UnorderedMap;
 use starlark_hash::{StarlarkHashValue, StarlarkHasher};
 use starlark_table::Iter;
-use std::fmt;
 use std::hash::{Hash, Hasher};
 
 // The sum in 64 bits of the result of a new hasher for each pair.
@@ -74,10 +73,4 @@ fn found_in<K: Eq + Hash, V: Eq>(
 
 impl<K: Eq + Hash, V: Eq> Eq for UnorderedMap<K, V> {
     ghost laws = { on_equiv pairs_of (same_bag_equiv (pair_eq K.eq V.eq) (pair_equiv K.eq V.eq K.Eq.laws V.Eq.laws)) };
-}
-
-impl<K: Eq + Hash + fmt::Debug, V: fmt::Debug> fmt::Debug for UnorderedMap<K, V> {
-    fn fmt<W: fmt::Write>(&self, f: &mut fmt::Formatter<W>) -> fmt::Result {
-        f.debug_map().entries(self.entries_unordered()).finish()
-    }
 }

@@ -32,7 +32,8 @@ impl<K: Eq + Hash, V> UnorderedMap<K, V> {
     #[inline(always)]
     pub fn get_hashed<Q: Query<K>>(&self, key: Hashed<Q>) -> Option<&V>
         ensures value { option_copied result ≡ get_under Q.stands_for K.hash_input self.now key }
-        // A look-up without a hash finds the same value. A look-up at any equal key with this own hash finds it here too.
+        // A look-up without a hash finds the same value. Conversely, for each key whose own hash this is and which the query
+        // stands for, the result is what `get` finds at it.
         ensures found { IfSome (option_copied result) (λ value. get Q.stands_for self.now (key_of key) ≡ Some value) }
         ensures own { (same : K) → hash_of key ≡ own_hash K.hash_input same → Q.stands_for (key_of key) ≡ K.eq same → get K.eq self.now same ≡ option_copied result }
         ensures member { IfSome (option_copied result) (λ value. IsAmong (values_of (pairs_of self.now)) value) }

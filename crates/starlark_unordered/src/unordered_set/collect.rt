@@ -11,9 +11,9 @@ use std::alloc::{AllocError, Global};
 use std::hash::Hash;
 
 impl<T: Eq + Hash + Drop> UnorderedSet<T> {
-    /// A set of the items, inserted in their order by `insert`; the first of equal items is kept. It begins with room for
-    /// the lower bound of the iterator's `size_hint`. If memory is refused, nothing is made and the items are dropped. It
-    /// is not refused if there are no items. The iterator must end.
+    /// A set of the items, inserted in their order by `insert`; the first of equal items is kept. It begins with room
+    /// for the lower bound of the iterator's `size_hint`. If memory is refused, nothing is made and the items are
+    /// dropped. It is not refused if there are no items. The call requires that the iterator's type bounds its items.
     pub fn from_iter<I: IntoIterator<Item = T>>(alloc: Global, iter: I) -> Result<Self, AllocError>
         requires { IsFiniteIterable I.into_iter_gives I.IntoIter.can_next I.IntoIter.remaining iter }
         ensures found { IfOk result (λ set. HasEachItem T.eq I.IntoIter.next_gives I.into_iter_gives iter set) }

@@ -1,4 +1,4 @@
-//! Equality of `UnorderedSet`s, and their text.
+//! Equality of `UnorderedSet`s.
 ghost use Rattle.std.specs.Ordering.{on};
 ghost use Rattle.std.specs.Cmp.{on_equiv, on_per, partial_equiv_from_equiv};
 ghost use Rattle.starlark_unordered.specs.Bag.{same_bag};
@@ -9,7 +9,6 @@ ghost use Rattle.starlark_unordered.specs.Lookup.{contains};
 ghost use Rattle.starlark_hash.specs.Unit.{same_unit, unit_equiv};
 
 use super::UnorderedSet;
-use std::fmt;
 use std::hash::Hash;
 
 impl<T: Eq + Hash> PartialEq for UnorderedSet<T> {
@@ -28,12 +27,4 @@ impl<T: Eq + Hash> PartialEq for UnorderedSet<T> {
 
 impl<T: Eq + Hash> Eq for UnorderedSet<T> {
     ghost laws = { on_equiv pairs_of (same_bag_equiv (pair_eq T.eq same_unit) (pair_equiv T.eq same_unit T.Eq.laws unit_equiv)) };
-}
-
-impl<T: Eq + Hash + fmt::Debug> fmt::Debug for UnorderedSet<T> {
-    fn fmt<W: fmt::Write>(&self, f: &mut fmt::Formatter<W>) -> fmt::Result {
-        f.debug_struct("UnorderedSet")
-            .field("map", &self.map)
-            .finish()
-    }
 }

@@ -13,7 +13,7 @@ use std::alloc::{AllocError, Global};
 impl<A: Drop, B: Drop> Vec2<A, B> {
     /// Appends the items, in their order. Room for the lower bound of the iterator's `size_hint` is made first. If
     /// there is no memory, the list is unchanged or filled by the first items; the others are dropped. It is never
-    /// refused if there is room for all items. The iterator must end.
+    /// refused if there is room for all items. The call requires that the iterator's type bounds its items.
     pub fn extend<I: IntoIterator<Item = (A, B)>>(&mut self, iter: I) -> Result<(), AllocError>
         requires { IsFiniteIterable I.into_iter_gives I.IntoIter.can_next I.IntoIter.remaining iter }
         ensures list { Extends I.into_iter_gives I.IntoIter.next_gives I.IntoIter.remaining iter self.old self.new result }
@@ -27,8 +27,8 @@ impl<A: Drop, B: Drop> Vec2<A, B> {
     }
 
     /// A list of the items, in their order. It begins with a capacity of the lower bound of the iterator's `size_hint`.
-    /// If there is no memory, nothing is made and the items are dropped. Without items it is never refused. The
-    /// iterator must end.
+    /// If there is no memory, nothing is made and the items are dropped. Without items it is never refused. The call
+    /// requires that the iterator's type bounds its items.
     pub fn from_iter<I: IntoIterator<Item = (A, B)>>(
         alloc: Global,
         iter: I,

@@ -1,11 +1,10 @@
-//! Equality, hash and printing of a `Vec2`, all by its pairs alone.
+//! Equality and hash of a `Vec2`, both by its pairs alone.
 ghost use Rattle.std.specs.Prelude.{◌&&◌, ◌++◌};
 ghost use Rattle.std.specs.Cmp.{and_per, on_per, and_equiv, on_equiv};
 ghost use Rattle.std.specs.Cmp.Lexicographic.{pointwise, lists_per, lists_equiv};
 ghost use Rattle.std.specs.Hash as fed;
 
 use super::Vec2;
-use std::fmt;
 use std::hash::{Hash, Hasher};
 
 impl<A: PartialEq, B: PartialEq> PartialEq for Vec2<A, B> {
@@ -34,11 +33,5 @@ impl<A: Hash, B: Hash> Hash for Vec2<A, B> {
             first.hash(state);
             second.hash(state);
         }
-    }
-}
-
-impl<A: fmt::Debug, B: fmt::Debug> fmt::Debug for Vec2<A, B> {
-    fn fmt<W: fmt::Write>(&self, f: &mut fmt::Formatter<W>) -> fmt::Result {
-        f.debug_list().entries(self.iter()).finish()
     }
 }

@@ -105,7 +105,7 @@ fn lend_front<T>(column: &mut Row<T>, spot: Spot<T>, index: usize) -> &mut T
     column.get_mut(spot.address, index)
 }
 
-// The item at this index of the second column, mutably. The address is computed from the spot of the block.
+// The item at this index of the column behind, mutably. Its address is computed from the spot of the block.
 #[inline]
 fn lend_behind<T, B>(column: &mut Row<T>, spot: Spot<B>, index: usize) -> &mut T
     requires at { IsBehind B.row T.row spot column.old.at }
@@ -116,7 +116,7 @@ fn lend_behind<T, B>(column: &mut Row<T>, spot: Spot<B>, index: usize) -> &mut T
     column.get_mut(second_at(spot), index)
 }
 
-// The item at this index of the second column, mutably, if the index is below `len`.
+// The item at this index of the column behind, mutably, if the index is below `len`.
 #[tactic(auto, using(std::proofs::lemmas::Option::slice_get_past))]
 #[inline]
 fn lend_behind_if<T, B>(

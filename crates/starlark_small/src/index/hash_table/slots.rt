@@ -1,4 +1,4 @@
-//! What takes an index out of the table, or gives it another number, and keeps table and cells together.
+//! Removals of an index from the table, and changes of indices. Each keeps the cells true.
 ghost use Rattle.std.specs.Prelude.{◌≡◌, ℕ, ◌-◌, ◌^◌, ◌<◌, ◌≤◌, length, slice_index, IsSome};
 ghost use Rattle.std.specs.List.{All};
 ghost use Rattle.starlark_small.specs.Slots.{IsSited, NamesSlots, RenamesEach, StandsBut, StandsOnce, TakesIndex, lowered};
@@ -6,10 +6,10 @@ ghost use Rattle.starlark_table.specs.Table.{member_at, members, with_item};
 
 use super::{Cells, Indices};
 
-// Up to this many slots, of 2 MB, the table lies in a processor's caches, and indices are lowered slot by slot.
+// Up to this many slots, which take 2 MB, the table fits a processor's caches, and indices are lowered slot by slot.
 const NEAR: usize = 1 << 18;
 
-// Takes out what stands in the slot of an index. The cells are told of those that move back.
+// Removes an index from its slot. The cells follow the members that move back.
 #[inline]
 pub(super) fn take_index(table: &mut Indices, cells: &mut Cells, index: usize)
     requires within { index < length cells.old.0.items }
@@ -22,7 +22,7 @@ pub(super) fn take_index(table: &mut Indices, cells: &mut Cells, index: usize)
     table.remove_followed(slot, cells);
 }
 
-// Lowers each index above one that was taken out: slot by slot where the table is small, or where they are few.
+// Decrements each index above a removed one: slot by slot if the table is small or if these indices are few.
 pub(super) fn lower_above(table: &mut Indices, cells: &Vec<u32>, index: usize)
     requires within { index < length cells.now.items }
     requires few { length cells.now.items ≤ 2 ^ 32 }
@@ -38,7 +38,7 @@ pub(super) fn lower_above(table: &mut Indices, cells: &Vec<u32>, index: usize)
     }
 }
 
-// Puts another index into a slot that has one, which is not read.
+// Writes another index into a full slot. The old index is not read.
 #[inline]
 fn write_index(table: &mut Indices, slot: usize, index: usize)
     requires full { IsSome (member_at table.old slot) }
@@ -48,7 +48,7 @@ fn write_index(table: &mut Indices, slot: usize, index: usize)
     *table.get_unchecked_mut(slot) = index as u32;
 }
 
-// Lowers each index above one that was taken out, slot by slot.
+// Decrements each index above a removed one, slot by slot.
 fn lower_each(table: &mut Indices, cells: &Vec<u32>, index: usize)
     requires within { index < length cells.now.items }
     requires few { length cells.now.items ≤ 2 ^ 32 }
@@ -61,7 +61,7 @@ fn lower_each(table: &mut Indices, cells: &Vec<u32>, index: usize)
     }
 }
 
-// The index one down, if it is above `last`. There is no branch, which would be mispredicted.
+// The index, decremented if it is above `last`. Branch-free, since the comparison would be mispredicted.
 #[inline]
 fn one_lower(index: u32, last: usize) -> u32
     ensures { result ≡ lowered last index }
@@ -69,7 +69,7 @@ fn one_lower(index: u32, last: usize) -> u32
     index - u32::from(index as usize > last)
 }
 
-// Lowers each index above one that was taken out, in one pass over the slots.
+// Decrements each index above a removed one, in one pass over the slots.
 fn lower_all(table: &mut Indices, last: usize)
     ensures { RenamesEach (lowered last) table.old table.new }
 {
@@ -80,7 +80,7 @@ fn lower_all(table: &mut Indices, last: usize)
     );
 }
 
-// Puts for each index the one that `to` names for it, in one pass over the slots.
+// Replaces each index `i` by `to[i]`, in one pass over the slots.
 pub(super) fn rename_each(table: &mut Indices, to: &[u32])
     requires { All (λ m. m.1 < length to.now) (members table.old) }
     ensures { RenamesEach (slice_index to.now) table.old table.new }
@@ -93,7 +93,7 @@ pub(super) fn rename_each(table: &mut Indices, to: &[u32])
     );
 }
 
-// Puts for each index of a list of this length the one as far from the list's end, in one pass over the slots.
+// Replaces each index of a list of length `len` by the index as far from the end, in one pass over the slots.
 pub(super) fn reverse_each(table: &mut Indices, len: usize)
     requires within { All (λ m. m.1 < len) (members table.old) }
     requires few { len ≤ 2 ^ 32 }
@@ -108,7 +108,7 @@ pub(super) fn reverse_each(table: &mut Indices, len: usize)
     );
 }
 
-// Writes into the cells where each index stands, in one pass over the slots.
+// Writes the slot of each index into its cell, in one pass over the slots.
 pub(super) fn name_slots(table: &Indices, cells: &mut Vec<u32>)
     requires below { All (λ m. m.1 < length cells.old.items) (members table.now) }
     requires once { StandsOnce table.now.slots }
