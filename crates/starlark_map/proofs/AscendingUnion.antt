@@ -83,7 +83,7 @@ module _ {T : Type 0} (eq : T → T → Bool) {cmp : T → T → Ordering} (tota
       let lacking : lacks eq there f ≡ true = grind (arith, drop_while-head (is_passed eq cmp es there) fs gs f is) in
       (rw (← skipped es fs there, is, other-first es gs there f up over first lacking), rw (is, first))
 
-  -- the next element is one of this list, or there is none
+  -- if the second list does not have the next element, the first list has it, or there is none
   pub step-own : (es fs there gs : Elements T) → Ascends cmp es → Ascends cmp gs → drop_while (is_passed eq cmp es there) fs ≡ gs → is_others cmp es gs ≡ false
       → OwnNext eq cmp (record { left = es; right = fs; there = there }) (record { left = es; right = gs; there = there })
   step-own [] fs there [] up over is own = (rw (← skipped [] fs there, is), refl, rw is)

@@ -56,19 +56,19 @@ module _ {T : Type 0} {eq : T → T → Bool} {cmp : T → T → Ordering} (tota
       (All-append P ds (h ∷ es) (λ k d inside. greater-apart f (get_or ds k d) (all-below ds es h f up lt k d inside))
       (All-cons P h es (greater-apart f h lt) (λ k d inside. less-apart f (get_or es k d) (before-all total es f rest first k d inside))))
 
-  -- a list that has given nothing lacks the element that comes next
+  -- a list that has given nothing lacks the other list's next element f
   pub lacks-next : (there : Elements T) (f : Entry T (Unit {0})) → ComesNext cmp None there f → false ≡ not (lacks eq there f)
   lacks-next there f next =
       let (es, up, all, first) = next in
       rw (all, lacks-before es f (subst (Ascends cmp) all up) first)
 
-  -- a list that has given something lacks the next element if it is greater than the last given
+  -- a list that has given something lacks the other list's next element f if f is greater than the element that it gave last
   pub lacks-next-above : (h : Hashed (Bor T)) (there : Elements T) (f : Entry T (Unit {0})) → ComesNext cmp (Some h) there f → key_lt cmp (shown_element h) f ≡ true → false ≡ not (lacks eq there f)
   lacks-next-above h there f next lt =
       let (es, up, behind, first) = next in
       rw (behind.1, lacks-between behind.0 es (shown_element h) f (subst (Ascends cmp) behind.1 up) lt first)
 
-  -- a list has the next element if it ties with the last given and has its hash
+  -- a list has the other list's next element f if f ties with the element that it gave last and has the same hash
   pub holds-tie : (h : Hashed (Bor T)) (there : Elements T) (f : Entry T (Unit {0})) → ComesNext cmp (Some h) there f → cmp (entry_key (shown_element h)) (entry_key f) ≡ Equal
       → is_under (hash_of f.0) (shown_element h) ≡ true → true ≡ not (lacks eq there f)
   holds-tie h there f next tie under =

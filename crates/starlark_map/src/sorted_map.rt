@@ -25,8 +25,8 @@ use std::alloc::{AllocError, Global};
 use std::hash::Hash;
 use std::marker::Model;
 
-/// An `OrderedMap` whose keys ascend. They ascend strictly if each is stored under its own hash; equal keys under different
-/// hashes may be adjacent. It is seen as its ordered map, by which it is compared and hashed.
+/// An `OrderedMap` whose keys ascend. They ascend strictly if each is stored under its own hash; equal keys under
+/// different hashes may be adjacent. It is seen as its ordered map, by which it is compared and hashed.
 #[derive(Debug, Drop)]
 pub struct SortedMap<K: Ord + Hash, V> {
     map: OrderedMap<K, V>,
@@ -54,9 +54,9 @@ impl<K: Ord + Hash, V> SortedMap<K, V> {
         }
     }
 
-    /// The entries of the map, sorted by key; those with equal keys keep their order. If the keys ascend already, it asks
-    /// for no memory. If memory is refused, the map is handed back with its entries unchanged. Capacity and hash index are
-    /// those of the map, done or refused.
+    /// The entries of the map, sorted by key; those with equal keys keep their order. If the keys ascend already, it
+    /// asks for no memory. If memory is refused, the map is handed back with its entries unchanged. Capacity and hash
+    /// index are those of the map, done or refused.
     #[tactic(auto, using(crate::proofs::AscendingKeys::sorts))]
     pub fn from_ordered_map(map: OrderedMap<K, V>) -> Result<Self, OrderedMap<K, V>>
         ensures { SortsInto K.eq K.cmp map result }
@@ -68,7 +68,8 @@ impl<K: Ord + Hash, V> SortedMap<K, V> {
         }
     }
 
-    /// The entries of a `SmallMap`, sorted by key. Memory and refusals are those of [`SortedMap::from_ordered_map`].
+    /// The entries of a `SmallMap`, sorted by key; equal keys keep their order. If memory is refused, the map is handed
+    /// back with its entries unchanged. It is not refused if its keys ascend already.
     #[tactic(auto, using(crate::proofs::AscendingKeys::sorts))]
     pub fn from_small_map(map: SmallMap<K, V>) -> Result<Self, SmallMap<K, V>>
         ensures { SortsInto K.eq K.cmp map result }
@@ -120,8 +121,8 @@ impl<K: Ord + Hash, V> SortedMap<K, V> {
         self.map.contains_key(key)
     }
 
-    /// The value under the query's own hash whose key the query stands for, for writing. The map ends with what is left in
-    /// it, and all else is unchanged. `None` if there is no such entry; then the map is unchanged.
+    /// The value under the query's own hash whose key the query stands for, for writing. The map ends with what is left
+    /// in it, and all else is unchanged. `None` if there is no such entry; then the map is unchanged.
     #[inline]
     pub fn get_mut<Q: Query<K> + Hash>(&mut self, key: Q) -> Option<&mut V>
         ensures* writes_back { sem 𝓛 (lends_get K.row V.row K.cmp K.eq K.partial_cmp K.hash_input self.entry (Q.stands_for key) (own_hash Q.hash_input key) result) }
@@ -134,8 +135,9 @@ impl<K: Ord + Hash, V> SortedMap<K, V> {
 
 impl<K: Ord + Hash + Drop, V: Drop> SortedMap<K, V> {
     /// The items, inserted into an empty map in their order, each under its key's own hash, and then sorted by key. If
-    /// memory is refused, nothing is made and the items are dropped. It is not refused if the iterator's bounds say that it
-    /// has no items. Of items with equal keys the first key is kept, with the last value. The iterator must end.
+    /// memory is refused, nothing is made and the items are dropped. It is not refused if the iterator's bounds say
+    /// that it has no items. Of items with equal keys the first key is kept, with the last value. The call requires
+    /// that the iterator's type bounds its items.
     pub fn from_iter<I: IntoIterator<Item = (K, V)>>(
         alloc: Global,
         iter: I,
@@ -159,9 +161,9 @@ impl<K: Ord + Hash + Drop, V: Drop> SortedMap<K, V> {
 
 impl<K: Ord + Hash + Clone, V: Clone> SortedMap<K, V> {
     /// A map of clones of the entries under the same hashes, in their order, so that the same keys are found in it. Its
-    /// capacity is their number, and it has a hash index exactly if it is longer than `UNINDEXED`. If memory is refused,
-    /// also to the clone of a key or a value, nothing is made. It is not refused if there are no entries. The clone of a
-    /// key must be equal to the key.
+    /// capacity is their number, and it has a hash index exactly if it is longer than `UNINDEXED`. If memory is
+    /// refused, also to the clone of a key or a value, nothing is made. It is not refused if there are no entries. The
+    /// clone of a key must be equal to the key.
     pub fn clone(&self) -> Result<Self, AllocError>
         // The clone of a key is equal to the key.
         requires { IsEqualClone K.eq K.is_clone }

@@ -26,8 +26,8 @@ use std::alloc::{AllocError, Global};
 use std::hash::Hash;
 use std::marker::Model;
 
-/// An `OrderedSet` whose elements ascend. They ascend strictly if each is stored under its own hash; equal elements under
-/// different hashes may be adjacent. It is seen as its ordered set, by which it is compared and hashed.
+/// An `OrderedSet` whose elements ascend. They ascend strictly if each is stored under its own hash; equal elements
+/// under different hashes may be adjacent. It is seen as its ordered set, by which it is compared and hashed.
 #[derive(Debug, Drop)]
 pub struct SortedSet<T: Ord + Hash> {
     inner: OrderedSet<T>,
@@ -66,9 +66,9 @@ impl<T: Ord + Hash> SortedSet<T> {
         SortedSet { inner }
     }
 
-    /// The elements of the set, sorted; equal ones, under different hashes, keep their order. If they ascend already, it
-    /// asks for no memory. If memory is refused, the set is handed back with its elements unchanged. Capacity and hash
-    /// index are those of the set, done or refused.
+    /// The elements of the set, sorted; equal ones, under different hashes, keep their order. If they ascend already,
+    /// it asks for no memory. If memory is refused, the set is handed back with its elements unchanged. Capacity and
+    /// hash index are those of the set, done or refused.
     #[tactic(auto, using(crate::proofs::AscendingKeys::sorts))]
     pub fn from_ordered_set(set: OrderedSet<T>) -> Result<Self, OrderedSet<T>>
         ensures { SortsInto T.eq T.cmp set result }
@@ -132,8 +132,8 @@ impl<T: Ord + Hash> SortedSet<T> {
         self.inner.contains(value)
     }
 
-    /// The element at an index; `None` past the end. The elements ascend, and no two have the same hash and are equal; if
-    /// each is stored under its own hash, they ascend strictly.
+    /// The element at an index; `None` past the end. The elements ascend, and no two have the same hash and are equal;
+    /// if each is stored under its own hash, they ascend strictly.
     #[inline]
     pub fn get_index(&self, index: usize) -> Option<&T>
         // The element is not greater than any from the index on, so that the first is the least.
@@ -151,8 +151,8 @@ impl<T: Ord + Hash> SortedSet<T> {
 
 impl<T: Ord + Hash + Drop> SortedSet<T> {
     /// The items, each once and under its own hash; of equal items the first is kept. The elements ascend strictly. The
-    /// capacity is the length of the vector, and there is a hash index exactly if that is above `UNINDEXED`. If memory is
-    /// refused, the vector is handed back unchanged. It is not refused if there are no items.
+    /// capacity is the length of the vector, and there is a hash index exactly if that is above `UNINDEXED`. If memory
+    /// is refused, the vector is handed back unchanged. It is not refused if there are no items.
     pub fn from_sorted_vec(vec: SortedVec<T>) -> Result<Self, SortedVec<T>>
         // Done: the items were inserted in their order. The elements ascend, with no two equal, each under its own hash.
         ensures entries { IfOk result (λ set. set.entries ≡ insert_all T.eq [] (map (own_element T.hash_input) vec)) }
@@ -176,8 +176,8 @@ impl<T: Ord + Hash + Drop> SortedSet<T> {
     }
 
     /// The items, inserted into an empty set in their order, each under its own hash, and then sorted. If memory is
-    /// refused, nothing is made and the items are dropped. It is not refused if the iterator's bounds say that it has no
-    /// items. Of equal items the first is kept. The iterator must end.
+    /// refused, nothing is made and the items are dropped. It is not refused if the iterator's bounds say that it has
+    /// no items. Of equal items the first is kept. The call requires that the iterator's type bounds its items.
     pub fn from_iter<I: IntoIterator<Item = T>>(alloc: Global, iter: I) -> Result<Self, AllocError>
         requires { IsFiniteIterable I.into_iter_gives I.IntoIter.can_next I.IntoIter.remaining iter }
         // Done: the set has exactly the items. The elements ascend, each under its own hash.
@@ -197,10 +197,10 @@ impl<T: Ord + Hash + Drop> SortedSet<T> {
 }
 
 impl<T: Ord + Hash + Clone> SortedSet<T> {
-    /// A set of clones of the elements under the same hashes, in their order, so that the same elements are found in it.
-    /// Its capacity is their number, and it has a hash index exactly if it is longer than `UNINDEXED`. If memory is
-    /// refused, also to the clone of an element, nothing is made. It is not refused if there are no elements. The clone of
-    /// an element must be equal to the element.
+    /// A set of clones of the elements under the same hashes, in their order, so that the same elements are found in
+    /// it. Its capacity is their number, and it has a hash index exactly if it is longer than `UNINDEXED`. If memory is
+    /// refused, also to the clone of an element, nothing is made. It is not refused if there are no elements. The clone
+    /// of an element must be equal to the element.
     pub fn clone(&self) -> Result<Self, AllocError>
         // The clone of an element is equal to the element.
         requires { IsEqualClone T.eq T.is_clone }

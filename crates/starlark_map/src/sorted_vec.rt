@@ -18,8 +18,8 @@ use std::vec::IntoIter;
 
 mod compare;
 
-/// A vector whose items ascend. Equal items may be adjacent. It is seen as the list of its items, which decides `==`, the
-/// order and `Hash`.
+/// A vector whose items ascend. Equal items may be adjacent. It is seen as the list of its items, which decides `==`,
+/// the order and `Hash`.
 #[derive(Drop, Debug)]
 pub struct SortedVec<T: Ord> {
     vec: Vec<T>,
@@ -57,7 +57,7 @@ impl<T: Ord> SortedVec<T> {
     }
 
     /// Every item of the vector, sorted; equal items keep their order. If memory is refused, the vector is handed back
-    /// unchanged. Up to 20 items need none.
+    /// with the same items. Up to 20 items need none.
     pub fn from_vec(vec: Vec<T>) -> Result<Self, Vec<T>>
         // Done: every item, as often as before, in ascending order; equal items keep their order.
         ensures every_item { IfOk result (IsPermutation vec.items) }
@@ -113,8 +113,8 @@ impl<T: Ord + Clone> SortedVec<T> {
 }
 
 impl<T: Ord + Drop> SortedVec<T> {
-    /// Every item of the iterator, sorted; equal items keep their order. If memory is refused, the items are dropped. The
-    /// iterator must end.
+    /// Every item of the iterator, sorted; equal items keep their order. If memory is refused, the items are dropped.
+    /// The call requires that the iterator's type bounds its items.
     pub fn from_iter<I: IntoIterator<Item = T>>(alloc: Global, iter: I) -> Result<Self, AllocError>
         requires { IsFiniteIterable I.into_iter_gives I.IntoIter.can_next I.IntoIter.remaining iter }
         ensures items { IfOk result (HasEveryItem T.cmp I.into_iter_gives I.IntoIter.next_gives iter) }

@@ -17,7 +17,7 @@ module _ {K V : Type 0} where
   pub length-with_value : (es : List (Entry K V)) (index : Option ℕ) (value : V) → length (with_value es index value) ≡ length es
   length-with_value es index value = grind (arith, common_steps, length-set_value_at)
 
-  -- an insertion of a new entry lengthens the list by one
+  -- an insertion lengthens the list by one if the key is new, and else not at all; `RoomLemmas` uses it
   pub length-inserted : (eq : K → K → Bool) (es : List (Entry K V)) (key : Hashed K) (value : V) → length (insert_entry eq es key value) ≡ cond (is_none (match_of eq es key)) (length es + 1) (length es)
   length-inserted eq es key value = grind (arith, common_steps, length-set_value_at)
 
@@ -50,14 +50,15 @@ module _ {K V R : Type 0} (eq : K → K → Bool) (cmp : K → K → Ordering) (
       (run.0, run.1, Run-of_memory (memory_after eq first old command reply) run.0 commands replies new last run.3)
   Run-of_memory first old commands replies new last run = absurd assumption
 
-  -- a run with its memory ends with one memory
-  pub MemoryRun-last : (first : Memory) (old : List (Entry K V)) (commands : List (Command K V)) (replies : List (Reply K V R)) (new end : List (Entry K V)) (last other : Memory)
+  -- all runs with memory of the same commands and replies end with one memory
+  MemoryRun-last : (first : Memory) (old : List (Entry K V)) (commands : List (Command K V)) (replies : List (Reply K V R)) (new end : List (Entry K V)) (last other : Memory)
       → MemoryRun eq cmp shows first old commands replies new last → MemoryRun eq cmp shows first old commands replies end other → last ≡ other
   MemoryRun-last first old [] [] new end last other p q = p.1 ∙ sym q.1
   MemoryRun-last first old (command ∷ commands) (reply ∷ replies) new end last other p q =
       MemoryRun-last (memory_after eq first old command reply) p.0 commands replies new end last other p.3 (rw (← Step-entries old command reply p.0 q.0 p.1 q.1) at q.3)
   MemoryRun-last first old commands replies new end last other p q = absurd assumption
 
+  -- if one run with memory ends with a memory of which this is true, each such run does
   pub EndsWith-last : (start : Map K V) (commands : List (Command K V)) (replies : List (Reply K V R)) (new : List (Entry K V)) (last : Memory) (so : Memory → Type 0)
       → MemoryRun eq cmp shows (memory_of start) start.entries commands replies new last → so last → EndsWith eq cmp shows start commands replies new so
   EndsWith-last start commands replies new last so run holds =

@@ -1,4 +1,4 @@
--- An insertion into a set where the element is there.
+-- An insertion of an element that is there changes nothing.
 use Rattle.starlark_hash.proofs.Common.{◌≡◌, ℕ, zero, suc, Bool, true, [], ◌∷◌, ◌++◌, Some, None, is_some, option_map_or, refl, ap, ◌∙◌, false≢true}
 use Rattle.starlark_hash.specs.declared.hashed.Hashed.{Hashed}
 use Rattle.starlark_hash.specs.HashValue.{hash_of, key_of}

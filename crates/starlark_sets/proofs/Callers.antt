@@ -1,4 +1,4 @@
--- What the clauses of sets say by look-ups: that a refused element was lacking, and that the key that is found passes.
+-- What the clauses of sets say by look-ups: a refused element was lacking, and the key that is found passes.
 use Rattle.starlark_hash.proofs.Common.{◌≡◌, ℕ, Bool, true, false, List, Option, Some, Result, OnErr, is_some, slice_get, refl, arith, IfSome, option_map, get_or_from_slice_get}
 use Rattle.starlark_hash.specs.declared.hashed.Hashed.{Hashed}
 use Rattle.starlark_hash.specs.declared.hash_value.StarlarkHashValue.{StarlarkHashValue}

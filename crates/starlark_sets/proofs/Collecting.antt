@@ -54,17 +54,17 @@ module _ {S A T : Type 0} {steps : S → Option A → S → Type 0} {eq : T → 
       → becomes iter it → Extends eq (beside entry) (StepsBeside steps) (λ s t. t ≡ s) it old new r → Extends eq entry steps becomes iter old new r
   extends_alone {becomes = becomes} {iter = iter} it {old} {new} {r} made put = record { it = put.it; made = subst (becomes iter) (sym put.made) made; inserts = inserts_alone put.it old new r put.inserts }
 
--- `IsExtended` under a stronger condition: where `said` implies `fits`, what holds where `fits` does holds where `said` does
+-- `IsExtended` holds under a stronger condition
 pub extended_where : {K V A E : Type 0} (fits said : Type 0) (old new : Map K V) (r : Result A E) → (said → fits) → IsExtended fits old new r → IsExtended said old new r
 extended_where fits said old new r on is = assumption (λ (s : said). is.succeeds (on s), λ (s : said). is.spare (on s))
 
--- what holds of each list whose items are a set's, inserted in their order, holds of the items that it was made of
+-- what holds of each list of items that makes the set holds of the iterator's items
 module _ {T A S U : Type 0} {eq : T → T → Bool} {entry : A → Entry T (Unit {0})} {steps : S → Option A → S → Type 0} {becomes : U → S → Type 0} {iter : U} {remaining : S → Count} (set : Set T) where
   pub collected : Collects eq entry steps becomes remaining iter set → (P : List A → Type 0) → ((xs : List A) → set.entries ≡ insert_all eq [] (map entry xs) → P xs)
       → (it : S) × becomes iter it × WholeRun steps it (λ p. P p.items)
   collected has P holds = (has.it, has.made, run_of steps has.it has.items P has.drained (holds has.items has.entries))
 
--- each item that is inserted adds one entry at most
+-- each item that is inserted adds at most one entry
 module _ {K V : Type 0} (eq : K → K → Bool) where
   one_more_at_most : (es : List (Entry K V)) (key : Hashed K) (value : V) (o : Option ℕ) → length (option_map_or (λ i. set_value_at es i value) o (es ++ (key, value) ∷ [])) ≤ length es + 1
   one_more_at_most es key value o = grind (arith, common_steps, length-set_value_at es)
@@ -76,7 +76,7 @@ module _ {K V : Type 0} (eq : K → K → Bool) where
   pub length-collected : {A : Type 0} (item : A → Entry K V) (xs : List A) (es : List (Entry K V)) → es ≡ insert_all eq [] (map item xs) → length es ≤ length xs
   length-collected item xs es is = omega (arith, ap length is, length-insert_all (map item xs) [], length-map xs item)
 
--- what a set has once an iterator's items went in
+-- what look-ups find once an iterator's items were inserted
 module _ {T : Type 0} {eq : T → T → Bool} (laws : IsEquivalence eq) (feeds : T → HashWrites) (alike : (x y : T) → eq x y ≡ true → feeds x ≡ feeds y) where
   has_all : (xs : List T) (es : Elements T) (element : T)
       → is_some (found (eq element) (own_hash feeds element) (insert_all eq es (map (own_element feeds) xs))) ≡ (is_some (found (eq element) (own_hash feeds element) es) || is_member eq xs element)

@@ -15,7 +15,7 @@ use Rattle.starlark_sets.specs.Difference.{lacks, difference, past}
 use Rattle.starlark_sets.specs.Set.{Elements}
 use Rattle.starlark_sets.specs.Union.{CountsEither}
 
--- a search finds something where an item passes
+-- a search finds something exactly if an item passes
 pub found_any : {X : Type 0} (p : X → Bool) (xs : List X) → is_some (position p xs) ≡ list_any p xs
 found_any p [] = refl
 found_any p (x ∷ xs) = grind (arith, position-cons p x xs, found_any p xs)
@@ -25,20 +25,20 @@ any_key p [] = refl
 any_key p (e ∷ es) = ap (λ b. p e.0 || b) (any_key p es)
 
 module _ {T : Type 0} (eq : T → T → Bool) where
-  -- what stands behind the first of a single list is single
+  -- the tail of a list without repetitions has none
   pub IsSingle-tail : (es : Elements T) (e : Entry T (Unit {0})) (fs : Elements T) → es ≡ e ∷ fs → IsSingle eq es → IsSingle eq fs
   IsSingle-tail es e fs is single i j d below inside = let s = rw is at single in s (suc i) (suc j) d (omega arith) (omega arith)
 
-  -- and so is what a test keeps of it
+  -- a list without repetitions that is filtered has none
   pub IsSingle-filter : (p : Entry T (Unit {0}) → Bool) (es : Elements T) → IsSingle eq es → IsSingle eq (filter p es)
   IsSingle-filter p es single = AllPairs-filter (λ d e. stands_under (entry_hash d) (eq (entry_key d)) e ≡ false) p es single
 
   module _ (laws : IsEquivalence eq) where
-    -- what is like something that is lacking is lacking
+    -- an element with the hash of one that is lacking, and equal to it, is lacking
     pub lacks_alike : (fs : Elements T) (q : Hashed T) (e : Entry T (Unit {0})) → alike eq q e.0 ≡ true → lacks eq fs e ≡ not (is_some (match_of eq fs q))
     lacks_alike fs q e like = λ i. not (is_some (position (λ f. sym ((alike-laws eq laws).congr q e.0 f.0 like) i) fs))
 
-    -- no more elements of a single list are in another than that one has
+    -- a list without repetitions has no more elements in common with another list than that list has
     lost_le : (es fs : Elements T) → IsSingle eq es → length (filter (λ e. not (lacks eq fs e)) es) ≤ length fs
     lost_le es fs single =
         let lost = λ (e : Entry T (Unit {0})). not (lacks eq fs e) in
@@ -52,7 +52,7 @@ module _ {T : Type 0} (eq : T → T → Bool) where
   kept_and_lost : (es fs : Elements T) → length (difference eq es fs) + length (filter (λ e. not (lacks eq fs e)) es) ≡ length es
   kept_and_lost es fs = length-filter_both (lacks eq fs) (λ e. not (lacks eq fs e)) (λ e. refl) es
 
-  -- a difference takes away at most as many elements as the other list has
+  -- a difference removes at most as many elements as the other list has
   pub length-difference : IsEquivalence eq → (es fs : Elements T) → IsSingle eq es → length es - length fs ≤ length (map entry_key (difference eq es fs))
   length-difference laws es fs single = simp length-map (omega (arith, lost_le laws es fs single, kept_and_lost es fs))
 
@@ -63,7 +63,7 @@ module _ {T : Type 0} (eq : T → T → Bool) where
   pub length-union-le : (es fs ds : Elements T) → length (map entry_key (es ++ difference eq fs ds)) ≤ length es + length fs
   length-union-le es fs ds = simp (length-map, length-append) (omega (arith, kept_and_lost fs ds))
 
-  -- and at least as many as each of them, where the other is single
+  -- a union has at most the sum of both lengths, and at least each of them
   pub counts-union : IsEquivalence eq → (es fs : Elements T) → IsSingle eq fs → CountsEither (length es) (length fs) (length (map entry_key (es ++ difference eq fs es)))
   counts-union laws es fs single =
       let all : length (map entry_key (es ++ difference eq fs es)) ≡ length es + length (difference eq fs es) = simp (length-map, length-append) in
@@ -79,7 +79,7 @@ module _ {T : Type 0} (eq : T → T → Bool) where
       → (difference eq fs other ≡ difference eq first other) × (past (lacks eq other) fs ≡ past (lacks eq other) first)
   passed first es e fs other is not_lacking before = grind arith
 
-  -- one that is lacking is the first of the difference
+  -- the first element that is lacking is the first of the difference
   pub reached : (es : Elements T) (e : Entry T (Unit {0})) (fs other : Elements T) → es ≡ e ∷ fs → lacks eq other e ≡ true
       → (difference eq es other ≡ e ∷ difference eq fs other) × (past (lacks eq other) es ≡ fs)
   reached es e fs other is lacking = grind arith

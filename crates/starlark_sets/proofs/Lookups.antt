@@ -1,4 +1,4 @@
--- What is found once an entry was removed from its index.
+-- What is found once an entry was removed at an index.
 use Rattle.starlark_hash.proofs.Common.{◌≡◌, ℕ, Bool, List, remove, Option, Some, None, slice_get, refl, subst, sym, arith, IsEquivalence, option_map, same_Some, common_steps}
 use Rattle.std.specs.Option.{IfNone}
 use Rattle.std.proofs.lemmas.Option.{slice_get_cases}
@@ -19,7 +19,7 @@ module _ {K V : Type 0} (eq : K → K → Bool) (laws : IsEquivalence eq) where
       let e = an_entry (λ e. e.0) key (slice_get old i) at in
       subst (λ (k : Hashed K). Writes eq (eq k.key) k.hash old new None) e.2 (writes-taken eq laws old new i e.0 single e.1 is)
 
--- nothing is taken from where there is nothing
+-- a removal past the end takes nothing
 pub stays-beyond : {X Y : Type 0} (f : X → Y) (xs ys : List X) (i : ℕ) (o : Option Y) → o ≡ option_map f (slice_get xs i) → ys ≡ remove xs i → IfNone o (ys ≡ xs)
 stays-beyond f xs ys i o at is = grind (arith, common_steps, slice_get_cases)
 

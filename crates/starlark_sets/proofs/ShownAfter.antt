@@ -1,4 +1,5 @@
--- A call that changes a set, gives it up and shows what is there meets its contract, whatever changes it and whatever is shown: the set is lent to the call that changes it and comes back, is then written no more, and is shown. Assumes `Logic`.
+-- The contract of a call that changes a set and lends an element of it, whatever changes it and whatever is lent. The set is lent
+-- to the call that changes it, and comes back; it is then written no more, and the element is lent. Assumes `Logic`.
 use Rattle.starlark_columns.proofs.LogicNames.{◌≡◌, refl, sym, ap, subst, ℕ, List, [], ◌∷◌, none, Ura, Fn, named, Ty, Val, vptr, SProp, ent, sep, id⊢, ex_e, snd∗, Lft, GName, Share, ftrue, flft, WpFn, Logic, sem, ◌⊑◌, ⊑_trans, meet_⊑_right, fact, tables, ‵, raw, ◌⊛◌, some, later, ◌$◌, ◌∵◌, !, qed, by, move, keep, drop, use1, use2, use3, split, split3, join, pick, fsplit, fsplit3, fjoin, fpick, fpack, done, such_by, follows_by, Item, await, rewrite, stop, addr, of_opd, and_then, no_more, returns, enter, alloc_all, pass_all, free_all, look_at, get, through, sets, lands_as, no, yes, RattleType, owns, follows_so, Is, shows, param, layout, Laws, param_laws, Bor, MutBor, MutRef, ShrRef, mut_vals, mut_Tells, shr_vals, shr_Tells, plain, types_at, mut_ref_to, nothing, heard, only, peeks, calls_at, Clauses, Ended, closing, Lasts, ensured, lasts, Meets, triple_of, Contract, Triple, framed, walk_of, Goes-spent_ref, Goes-blank, Good, proved_at, ⊤, tells, spent, drops, leaves}
 use contract.Lifetimes.{Lfts}
 use contract.Running.{Running, MachineTables}
@@ -10,13 +11,14 @@ use prog.Wp.{Closed}
 use Rattle.starlark_columns.proofs.LoneValue.{lone_value}
 use Rattle.starlark_columns.proofs.ProofSteps.{Kept, within, good_value, lent_within, back_again}
 
--- what is said of a value at its end may be said less strongly
+-- a weaker statement holds of a value at its end
 module _ {M : Type 1} {𝓤 : Ura M} (𝓛 : Logic 𝓤) (R : RattleType) (γ : GName) (P Q : R.Denot → Type 0) (weaker : (n : R.Denot) → P n → Q n) where
   ends_weaker : ent 𝓤 (sem 𝓛 (follows_so R R γ none (λ _ _. ⊤) P)) (sem 𝓛 (follows_so R R γ none (λ _ _. ⊤) Q))
   unfolding such_by follows_by
   ends_weaker = qed 𝓛 (‵ (follows_so R R γ none (λ _ _. ⊤) P) ∷ []) ∵ fpick ! (λ s. fpack ! ((s : (R.Denot → R.Denot) × R.Denot) × ((w : R.Denot) → ⊤) × Q s.1) (λ s. follows_by R.Denot R.Denot R.coded.code R.coded.code γ none s.0.0 s.0.1) (s.0, s.1, weaker s.0.1 s.2) $ done !)
 
--- what is said of a call: the elements' type, the set's, what the change answers and what is shown, and what each of the three calls says
+-- what is said of a call: the types of the elements, of the set, of what the change returns and of what is lent, and what each of
+-- the three calls says
 pub record Words : Type 2 where
   pub T : RattleType
   pub R : RattleType
@@ -66,7 +68,7 @@ module _ (W : Words) where
   abbrev ended : Ended
   ended = ending (lent ∷ plain (λ _. T') ∷ []) (plain Out) (no, (no, tt))
 
-  -- the code, of a set that is written as σ behind a reference and as δ where it is read
+  -- the code, for a set that is written as σ behind a reference and as δ where it is read
   abbrev pub here : (σ δ : Ty) → Callee → Callee → Callee → Fn
   here σ δ put freeze show = record {
     lifetimes = 1;

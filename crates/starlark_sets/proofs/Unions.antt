@@ -1,4 +1,4 @@
--- Differences and unions of lists without repetitions have none.
+-- A difference and a union of lists without repetitions have no repetitions.
 use Rattle.starlark_hash.proofs.Common.{◌≡◌, ℕ, ◌-◌, ◌<◌, Bool, true, false, ◌++◌, length, get_or, List, ◌∙◌, arith, length-append, IsEquivalence, get_or_append_left}
 use Rattle.std.specs.Prelude.{AllPairs}
 use Rattle.std.proofs.lemmas.Bool.{cases_order}
@@ -12,7 +12,7 @@ use Rattle.starlark_sets.specs.Set.{Elements}
 use Rattle.starlark_sets.specs.Union.{union}
 use Rattle.starlark_sets.proofs.Differences.{IsSingle-filter}
 
--- what holds of each two items of each of two lists, and of one of each, holds of their items one behind the other
+-- a test that fails on each two items of either list, and on one of each, fails on each two items of the lists appended
 pairs_append : {X : Type 0} (p : X → X → Bool) (xs ys : List X) → AllPairs (λ x y. p x y ≡ false) xs → AllPairs (λ x y. p x y ≡ false) ys
     → ((i j : ℕ) (d : X) → i < length xs → j < length ys → p (get_or xs i d) (get_or ys j d) ≡ false) → AllPairs (λ x y. p x y ≡ false) (xs ++ ys)
 pairs_append p xs ys first second across i j d below inside =
@@ -20,11 +20,11 @@ pairs_append p xs ys first second across i j d below inside =
     grind (arith, left i, left j, right i d, right j d, length-append xs ys, order j, order i, first i j d below, second (i - length xs) (j - length xs) d, across i (j - length xs) d)
 
 module _ {T : Type 0} (eq : T → T → Bool) where
-  -- a difference has none
+  -- a difference has no two elements with one hash that are equal
   pub IsSingle-difference : (es fs : Elements T) → IsSingle eq es → IsSingle eq (difference eq es fs)
   IsSingle-difference es fs single = IsSingle-filter eq (lacks eq fs) es single
 
-  -- no two elements of a union have one hash and are equal
+  -- a union has no two elements with one hash that are equal
   pub IsSingle-union : IsEquivalence eq → (es fs : Elements T) → IsSingle eq es → IsSingle eq (difference eq fs es) → IsSingle eq (union eq es fs)
   IsSingle-union laws es fs first second = pairs_append (λ d e. stands_under (entry_hash d) (eq (entry_key d)) e) es (difference eq fs es) first second (λ i j d below inside.
       let y = get_or (difference eq fs es) j d in

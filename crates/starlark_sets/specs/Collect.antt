@@ -12,7 +12,7 @@ use Rattle.starlark_small.specs.Map.{own_hashed}
 use Rattle.starlark_sets.specs.Set.{Set}
 
 module _ {T : Type 0} where
-  -- an element that stands under a hash, as a set's entry
+  -- an element with its hash, as a set's entry
   abbrev pub element_entry : Hashed T → Entry T (Unit {0})
   element_entry element = (element, tt)
 
@@ -21,8 +21,8 @@ module _ {T : Type 0} where
   own_element feeds element = element_entry (own_hashed feeds element)
 
 module _ {T S U : Type 0} (eq : T → T → Bool) (feeds : T → HashWrites) (steps : S → Option T → S → Type 0) (becomes : U → S → Type 0) (iter : U) where
-  -- the set has each of the iterator's items, and of all others what it had before. It speaks of a run, as the kit's clauses on
-  -- iterators do, so that callers' proofs find the items
+  -- the set has each of the iterator's items, and each element that it had before. The definition speaks of a run, like the kit's
+  -- clauses on iterators, so that callers' proofs find the items
   abbrev pub HasEach : (T → Bool) → Set T → Type 0
   HasEach before s = (it : S) × becomes iter it × WholeRun steps it (λ p. (element : T) → contains eq feeds s element ≡ (before element || is_member eq p.items element))
 
@@ -41,6 +41,6 @@ HasNoMore {T} {A} {S} {U} steps becomes iter s = (it : S) × becomes iter it × 
 abbrev pub InsertsEach : {T S U : Type 0} → (T → T → Bool) → (S → Option (Hashed T) → S → Type 0) → (U → S → Type 0) → U → Set T → Type 0
 InsertsEach {T} {S} {U} eq steps becomes iter s = (it : S) × becomes iter it × WholeRun steps it (λ p. s.entries ≡ insert_all eq [] (map element_entry p.items))
 
--- if the iterator's elements stand under their own hashes, the set's do
+-- if the iterator's elements are under their own hashes, the set's elements are too
 abbrev pub KeepsOwn : {T S U : Type 0} → (S → Option (Hashed T) → S → Type 0) → (U → S → Type 0) → U → Set T → Type 0
 KeepsOwn {T} {S} {U} steps becomes iter s = (it : S) × becomes iter it × WholeRun steps it (λ p. (feeds : T → HashWrites) → AreOwnEntries feeds (map element_entry p.items) → AreOwn feeds s)

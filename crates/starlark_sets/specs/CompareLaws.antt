@@ -11,15 +11,15 @@ use Rattle.starlark_hash.specs.Compare.{same_entry, same_ordered, ordered_feed}
 use Rattle.starlark_sets.specs.Compare.{number_of, pair_cmp, entries_cmp}
 
 module _ {K V : Type 0} {key_eq : K → K → Bool} {value_eq : V → V → Bool} where
-  -- equality item by item is an equivalence where those of keys and values are
+  -- equality index by index is an equivalence if those of keys and values are
   pub same_order_equiv : IsEquivalence key_eq → IsEquivalence value_eq → IsEquivalence (same_ordered key_eq value_eq)
   same_order_equiv a b = lists_equiv (and_equiv (on_equiv number_of nat_eq_equiv) (and_equiv (on_equiv entry_key a) (on_equiv entry_value b)))
 
-  -- it is symmetric and transitive where the equality of values is no more than that
+  -- equality index by index is symmetric and transitive if that of values is
   pub same_order_per : IsEquivalence key_eq → IsPartialEquivalence value_eq → IsPartialEquivalence (same_ordered key_eq value_eq)
   same_order_per a b = lists_per (and_per (on_per number_of (partial_equiv_from_equiv nat_eq_equiv)) (and_per (on_per entry_key (partial_equiv_from_equiv a)) (on_per entry_value b)))
 
--- both tests item by item are the test of both
+-- a conjunction of two tests, index by index, is the conjunction of both
 pointwise-both : {X : Type 0} (E F : X → X → Bool) (xs ys : List X) → pointwise (λ x y. F x y && E x y) xs ys ≡ (pointwise E xs ys && pointwise F xs ys)
 pointwise-both E F [] [] = refl
 pointwise-both E F [] (y ∷ ys) = refl
@@ -33,12 +33,12 @@ pointwise-both E F (x ∷ xs) (y ∷ ys) = ap (λ b. (F x y && E x y) && b) (poi
     shuffled false true false d = refl
     shuffled false false c d = refl
 
--- the order of lists of entries is total where those of keys and values are
+-- the order of lists of entries is total if those of keys and values are
 pub entries_total : {K V : Type 0} {key_cmp : K → K → Ordering} {value_cmp : V → V → Ordering} → IsTotalOrder key_cmp → IsTotalOrder value_cmp → IsTotalOrder (entries_cmp {K = K} {V = V} key_cmp value_cmp)
 entries_total a b = then_total (lists_total (then_total (on_total entry_key a) (on_total entry_value b))) (lists_total (on_total number_of nat_cmp_total))
 
 module _ {K V : Type 0} (key_eq : K → K → Bool) (value_eq : V → V → Bool) (key_cmp : K → K → Ordering) (value_cmp : V → V → Ordering) where
-  -- lists are equal exactly where the order does not tell them apart: it ties equal lists and no others
+  -- lists are equal exactly if the order ties them
   pub entries_ties : ((x y : K) → key_eq x y ≡ eq_by_cmp key_cmp x y) → ((x y : V) → value_eq x y ≡ eq_by_cmp value_cmp x y) → (es fs : List (Entry K V)) → same_ordered key_eq value_eq es fs ≡ eq_by_cmp (entries_cmp key_cmp value_cmp) es fs
   entries_ties a b es fs =
       let pairs : Entry K V → Entry K V → Bool = eq_of_both (on entry_key key_eq) (on entry_value value_eq) in

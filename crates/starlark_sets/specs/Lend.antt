@@ -1,5 +1,5 @@
--- What a `SmallSet` and an `OrderedSet` are, once the elements that a call showed are no longer looked at, and what an `OrderedMap`
--- ends as, once a reference into it has ended.
+-- What a `SmallSet` and an `OrderedSet` are once the elements that a call lent are no longer read, and what an `OrderedMap` ends
+-- as once a reference into it has ended.
 use Rattle.std.specs.Prelude.{⊤, ◌≡◌, Bool, Option, Some, IsSome}
 use Rattle.std.specs.Borrow.{Fml, RattleType, MutBor, follows_so, GName, Lends, LendsSo, follows}
 use mathlib.Core.Option.{none}
@@ -20,19 +20,19 @@ use Rattle.starlark_hash.specs.Lookup.{Writes, found}
 use Rattle.starlark_sets.specs.contracts.ordered_map.OrderedMap.{the_row}
 
 module _ (T : RattleType) (g : eq.Ghosts T.Denot) (s : MutBor (Set T.Denot)) where
-  -- the set ends as P says, once what was shown of it is no longer looked at
+  -- the small set satisfies P once what a call lent of it is no longer read
   abbrev pub ends_so : (Set T.Denot → Type 0) → Fml
   ends_so P = follows_so (set_type T g) (set_type T g) s.ghost_name none (λ _ _. ⊤) P
 
 module _ (T : RattleType) (g : eq.Ghosts T.Denot) (s : MutBor (Set T.Denot)) where
-  -- the set ends as P says, once what a call showed of it is no longer looked at
+  -- the ordered set satisfies P once what a call lent of it is no longer read
   abbrev pub ordered_ends_so : (Set T.Denot → Type 0) → Fml
   ordered_ends_so P = follows_so (ordered_set_type T g) (ordered_set_type T g) s.ghost_name none (λ _ _. ⊤) P
 
 module _ (K V : RattleType) (g : eq.Ghosts K.Denot) (s : MutBor (Map K.Denot V.Denot)) where
-  -- the value that a test finds under a hash ends as what is left behind the reference, and all else stays: by look-ups; the keys
-  -- in their order, and which are under their own hashes; and where the value is left as it was, the map is as it was. Where there
-  -- is none, the map stays
+  -- the value that the test finds under the hash ends as what is left behind the reference, and all else stays. The fields say so
+  -- of the list, of the keys in order, of look-ups, and of own hashes; and if the value is left as it was, the map is as it was.
+  -- If nothing is found, the map stays
   abbrev pub lends_get : (K.Denot → Bool) → StarlarkHashValue → Option (MutBor V.Denot) → Fml
   lends_get test hash r = LendsSo (the_row K V g) V s r
       (λ n w. (n ≡ record s.now { entries = with_value s.now.entries (position_of hash test s.now.entries) w }) × (keys n ≡ keys s.now)
@@ -40,7 +40,7 @@ module _ (K V : RattleType) (g : eq.Ghosts K.Denot) (s : MutBor (Map K.Denot V.D
       × ((feeds : K.Denot → HashWrites) → AreOwn feeds s.now → AreOwn feeds n) × (found test hash s.now.entries ≡ Some w → n ≡ s.now))
       (λ n. n ≡ s.now)
 
-  -- the map ends with the values that the loan of this name ends with, and all else stays
+  -- the map ends with the values with which the loan of this name ends, and all else stays
   abbrev pub values_follow : GName → Fml
   values_follow γ = follows (the_row K V g) (small.the_row K V g) s.ghost_name γ (λ w. record s.now { entries = with_values s.now.entries w.entries })
 

@@ -1,4 +1,4 @@
-//! The elements of one set that another lacks.
+//! The iterator over a difference of two sets.
 ghost use Rattle.std.specs.Prelude.{◌≡◌, ◌-◌, length, Some, IfSome};
 ghost use Rattle.std.specs.Iterator.{UpTo, at_most};
 ghost use Rattle.std.specs.Iterator.SizeHint.{IsWithinCount};
@@ -9,8 +9,9 @@ use crate::small_set::SmallSet;
 use starlark_small::IterHashed;
 use std::marker::Model;
 
-/// The elements of one set that another lacks, in order. An element is looked for under the hash that it stands under.
-/// It is seen as what it has left to look at, and the list that it looks in. A step passes over those that are there.
+/// An iterator over the elements of one set that another lacks, in order. Each element is looked up under its stored
+/// hash, and a step passes over those that the other set has. A contract sees the elements left to look at, and the
+/// list in which they are looked up.
 #[derive(Drop)]
 pub struct Difference<'a, T: Eq> {
     left: IterHashed<'a, T, ()>,
@@ -25,8 +26,8 @@ impl<'a, T: Eq> Model for Difference<'a, T> {
 
     ghost view = { λ d. record { left = d.left; other = d.other.now.entries } };
 
-    // No two elements that are left are alike, so each of the other set strikes out one at most: the lower bound of
-    // `size_hint` needs it.
+    // No two of the elements that are left have the same hash and are equal. So each element of the other set excludes
+    // at most one, on which the lower bound of `size_hint` rests.
     ghost invariant = { λ d. IsSingle T.eq d.left };
 }
 
@@ -40,7 +41,7 @@ impl<'a, T: Eq> Difference<'a, T> {
     }
 }
 
-// The first element that is left and that the other set lacks.
+// Returns the first of the elements left that the other set lacks.
 #[tactic(auto, using(crate::proofs::Differences::differences))]
 fn next_lacking<'a, T: Eq>(left: &mut IterHashed<'a, T, ()>, other: &SmallSet<T>) -> Option<&'a T>
     ensures steps { DifferenceSteps T.eq (record { left = left.old; other = other.now.entries }) result (record { left = left.new; other = other.now.entries }) }

@@ -1,4 +1,4 @@
-//! The walks of a `SmallSet`. Each is seen as the list of what it has left.
+//! The iterators of a `SmallSet`. A contract sees each as the list of what it has left.
 ghost use Rattle.std.specs.Prelude.{◌≡◌, length, IfSome, Some};
 ghost use Rattle.std.specs.Iterator.{UpTo, at_most};
 ghost use Rattle.std.specs.Iterator.SizeHint.{IsWithinCount};
@@ -11,13 +11,13 @@ use starlark_small as map;
 use std::iter::FusedIterator;
 use std::marker::Model;
 
-/// The elements, each as `&T`.
+/// An iterator over the elements, each as `&T`.
 pub type Iter<'a, T> = map::Keys<'a, T, ()>;
 
-/// The elements, by value.
+/// An iterator over the elements by value.
 pub type IntoIter<T> = map::IntoKeys<T, ()>;
 
-/// The elements, each as `Hashed<&T>`.
+/// An iterator over the elements, each as `Hashed<&T>`.
 #[derive(Drop)]
 pub struct IterHashed<'a, T> {
     inner: map::IterHashed<'a, T, ()>,
@@ -85,7 +85,7 @@ impl<'a, T> ExactSizeIterator for IterHashed<'a, T> {
 
 impl<'a, T> FusedIterator for IterHashed<'a, T> {}
 
-/// The elements by value, each as `Hashed<T>`.
+/// An iterator over the elements by value, each as `Hashed<T>`.
 #[derive(Drop)]
 pub struct IntoIterHashed<T> {
     inner: map::IntoIterHashed<T, ()>,

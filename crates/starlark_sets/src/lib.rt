@@ -1,4 +1,4 @@
-//! Sets that walk in the order of insertion.
+//! Sets that iterate in the order of insertion, and the maps and sets that compare in order.
 #![tactic(auto)]
 
 pub mod difference;

@@ -1,4 +1,4 @@
-//! `smallset!`.
+//! The macro `smallset!`, and the function that it calls.
 ghost use Rattle.std.specs.Prelude.{◌≡◌, ◌<◌, IfOk, IsErr, IsOk, MatchResult, true};
 ghost use Rattle.starlark_hash.specs.Insert.{insert_entry};
 ghost use Rattle.starlark_small.specs.Insert.{LeavesMemory};
@@ -9,9 +9,9 @@ use crate::SmallSet;
 use std::alloc::AllocError;
 use std::hash::Hash;
 
-/// A `SmallSet` of these elements, as `smallset![alloc; 1, 4, 2]?`. It begins with room for as many elements as are
-/// written, and inserts them in their order, each under its own hash: one that is written again changes nothing. The
-/// room at the beginning alone may be refused; then nothing is made.
+/// Makes a `SmallSet` of these elements, as in `smallset![alloc; 1, 4, 2]?`. The set begins with room for as many
+/// elements as are written. The elements are inserted in their order, each under its own hash. An element that is
+/// written again changes nothing. Only the room at the beginning may be refused, and then nothing is made.
 #[macro_export]
 macro_rules! smallset {
     (@one $element:expr) => {
@@ -24,8 +24,8 @@ macro_rules! smallset {
     }};
 }
 
-/// One step of `smallset!`: inserts into a set that was made, as `SmallSet::insert` does. An element that is there is
-/// never refused, nor is any with room to spare; a set that was refused stays so. Room, capacity and index are left as an
+/// Makes one step of `smallset!`: inserts an element into the set, or passes on that the set was refused. An element
+/// that is there is never refused, nor is any with room to spare. Room, capacity and hash index are left as an
 /// insertion leaves them.
 pub fn inserted<T: Eq + Hash + Drop>(
     set: Result<SmallSet<T>, AllocError>,

@@ -1,4 +1,4 @@
-//! How lists of entries compare where their order counts.
+//! Comparisons of lists of entries, in which the order counts.
 ghost use Rattle.std.specs.Prelude.{◌≡◌};
 ghost use Rattle.std.specs.Cmp.Lexicographic.{slice_cmp};
 ghost use Rattle.std.specs.Ordering.{nat_cmp, on};

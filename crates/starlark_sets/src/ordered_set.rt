@@ -1,4 +1,4 @@
-//! A set whose order counts when it is compared. It alone sees the set inside.
+//! A set whose order counts when it is compared. The files of this module alone see the set inside.
 ghost use Rattle.std.specs.Hash.{HashWrites};
 ghost use Rattle.std.specs.Iterator.{IsFiniteIterable, size};
 ghost use Rattle.std.specs.Option.{option_copied, option_map};
@@ -32,8 +32,8 @@ use std::hash::Hash;
 use std::marker::Model;
 pub use try_insert::{OccupiedError, TryInsertError};
 
-/// A `SmallSet` that is compared and hashed in its order. It is seen as the set inside, and its calls say what that
-/// set's do.
+/// A `SmallSet` that is compared and hashed in its order. A contract sees it as the set inside, and its calls have the
+/// clauses of that set's calls.
 #[derive(Debug, Drop)]
 pub struct OrderedSet<T: Eq>(SmallSet<T>);
 
@@ -46,7 +46,7 @@ impl<T: Eq> Model for OrderedSet<T> {
 }
 
 impl<T: Eq> OrderedSet<T> {
-    /// An empty set without room, capacity and index. It asks for no memory until the first insertion.
+    /// Makes an empty set without room, capacity and hash index. It asks for no memory until the first insertion.
     #[inline]
     pub fn new(alloc: Global) -> Self
         ensures { IsBare result }
@@ -54,15 +54,16 @@ impl<T: Eq> OrderedSet<T> {
         OrderedSet(SmallSet::new(alloc))
     }
 
-    /// An empty set of this capacity, with room for so many elements, and with an index where so many need one. Where
-    /// memory is refused, nothing is made; capacity 0 asks for none.
+    /// Makes an empty set of this capacity, with room for that many elements, and with a hash index if that many need
+    /// one. If memory is refused, or for more than 3,489,660,928 elements, nothing is made. Capacity 0 asks for no
+    /// memory.
     pub fn with_capacity(alloc: Global, capacity: usize) -> Result<Self, AllocError>
         ensures { MakesEmptyFor capacity result }
     {
         Ok(OrderedSet(SmallSet::with_capacity(alloc, capacity)?))
     }
 
-    /// How many elements there are.
+    /// Returns the number of elements.
     #[inline]
     pub fn len(&self) -> usize
         ensures len { result ≡ length self.now.entries }
@@ -71,7 +72,7 @@ impl<T: Eq> OrderedSet<T> {
         self.0.len()
     }
 
-    /// Whether there are no elements.
+    /// Returns whether there are no elements.
     #[inline]
     pub fn is_empty(&self) -> bool
         ensures { result ≡ (length self.now.entries == 0) }
@@ -79,7 +80,7 @@ impl<T: Eq> OrderedSet<T> {
         self.0.is_empty()
     }
 
-    /// The element under the query's own hash that the query stands for.
+    /// Returns the element under the query's own hash that the query stands for.
     #[inline(always)]
     pub fn get<Q: Query<T> + Hash>(&self, query: Q) -> Option<&T>
         // The stored element that is found comes back, and the query stands for it.
@@ -90,27 +91,27 @@ impl<T: Eq> OrderedSet<T> {
         self.0.get(query)
     }
 
-    /// Whether there is an element under the query's own hash that the query stands for.
+    /// Returns whether there is an element under the query's own hash that the query stands for.
     #[inline(always)]
     pub fn contains<Q: Query<T> + Hash>(&self, query: Q) -> bool
-        // Whether an element is found, and then the set has one that the query stands for.
+        // Whether an element is found. If so, the query stands for one of the set's elements.
         ensures found { result ≡ contains Q.stands_for Q.hash_input self.now query }
         ensures key { IsTrue result → HasKey (Q.stands_for query) self.now }
     {
         self.0.contains(query)
     }
 
-    /// Whether there is an element under this hash that the query stands for.
+    /// Returns whether there is an element under this hash that the query stands for.
     #[inline(always)]
     pub fn contains_hashed<Q: Query<T>>(&self, query: Hashed<Q>) -> bool
-        // Whether an element is found, and then the set has one that the query stands for.
+        // Whether an element is found. If so, the query stands for one of the set's elements.
         ensures found { result ≡ is_some (found (Q.stands_for (key_of query)) (hash_of query) self.now.entries) }
         ensures key { IsTrue result → HasKey (Q.stands_for (key_of query)) self.now }
     {
         self.0.contains_hashed(query)
     }
 
-    /// The element at an index; `None` past the end.
+    /// Returns the element at an index, or `None` past the end.
     #[inline]
     pub fn get_index(&self, index: usize) -> Option<&T>
         ensures { option_copied result ≡ option_map entry_key (slice_get self.now.entries index) }
@@ -118,7 +119,7 @@ impl<T: Eq> OrderedSet<T> {
         self.0.get_index(index)
     }
 
-    /// The index of the element under the query's own hash that the query stands for.
+    /// Returns the index of the element under the query's own hash that the query stands for.
     #[inline(always)]
     pub fn get_index_of<Q: Query<T> + Hash>(&self, query: Q) -> Option<usize>
         ensures { NamesIndex (Q.stands_for query) (own_hash Q.hash_input query) self.now result }
@@ -126,7 +127,7 @@ impl<T: Eq> OrderedSet<T> {
         self.0.get_index_of(query)
     }
 
-    /// The first element, if there is one.
+    /// Returns the first element, if there is one.
     #[inline]
     pub fn first(&self) -> Option<&T>
         ensures { option_copied result ≡ option_map entry_key (slice_get self.now.entries 0) }
@@ -134,7 +135,7 @@ impl<T: Eq> OrderedSet<T> {
         self.0.first()
     }
 
-    /// The last element, if there is one.
+    /// Returns the last element, if there is one.
     #[inline]
     pub fn last(&self) -> Option<&T>
         ensures { option_copied result ≡ option_map entry_key (slice_get self.now.entries (length self.now.entries - 1)) }
@@ -142,9 +143,9 @@ impl<T: Eq> OrderedSet<T> {
         self.0.last()
     }
 
-    /// Inserts under the element's own hash, and answers whether it was new. An element that is there stays, and this
-    /// one is dropped. Only a new one is refused, where there is no room and no memory is found: it comes back, and
-    /// elements and index stay. Capacity, room and index are left as `SmallMap::insert_hashed` leaves them.
+    /// Inserts an element under its own hash, and returns whether it was new. An element that is there stays, and this
+    /// one is dropped; a new one is appended. Only a new element is refused, if there is no room and memory is refused.
+    /// Capacity, room and hash index are left as `SmallMap::insert_hashed` leaves them.
     #[inline]
     pub fn insert(&mut self, element: T) -> Result<bool, NoRoom<T>>
     where
@@ -156,10 +157,10 @@ impl<T: Eq> OrderedSet<T> {
         ensures there { contains T.eq T.hash_input self.old element ≡ true → IsOk result × (self.new ≡ self.old) }
         // The list now: an element that is there keeps its index, and a new one is appended.
         ensures inserts { OnOk result (Inserts T.eq self.old self.new (own_hashed T.hash_input element) tt) }
-        // Elements that are under their own hashes stay so, also where this one is refused.
+        // Elements that are under their own hashes stay so, also if this one is refused.
         ensures own { AreOwn T.hash_input self.old → AreOwn T.hash_input self.new }
-        // Refused: only a new element, only without room. It comes back, and elements and index are unchanged; the capacity
-        // may have grown.
+        // Refused: only a new element, only without room. It comes back, and elements and hash index are unchanged. The
+        // capacity may have grown.
         ensures refused { OnErr result (IsRefusedInsertion T.eq self.old self.new (own_hashed T.hash_input element)) }
         ensures handed_back { IfErr result (λ refused. refused.0 ≡ element) }
         // Done or refused: no room is lost, and with room to spare no memory is asked for.
@@ -168,9 +169,8 @@ impl<T: Eq> OrderedSet<T> {
         self.0.insert(element)
     }
 
-    /// Appends an element under its own hash, without a look-up; that it is not there is required. It is refused where
-    /// there is no room and no memory is found: then it comes back, and elements and index stay; the capacity may have
-    /// grown.
+    /// Appends a new element under its own hash, without a look-up. The element is refused if there is no room and
+    /// memory is refused.
     pub fn insert_unique_unchecked(&mut self, element: T) -> Result<(), NoRoom<T>>
     where
         T: Hash,
@@ -178,10 +178,10 @@ impl<T: Eq> OrderedSet<T> {
         // Done: the element is the last, it is there now, and every other element is there if it was.
         ensures inserted { OnOk result (IsInserted self.old self.new (own_hashed T.hash_input element) tt) }
         ensures updates { OnOk result (Updates T.eq T.hash_input self.old self.new element (Some tt)) }
-        // Elements that are under their own hashes stay so, also where this one is refused.
+        // Elements that are under their own hashes stay so, also if this one is refused.
         ensures own { AreOwn T.hash_input self.old → AreOwn T.hash_input self.new }
-        // Refused: only without room. The element comes back, and elements and index are unchanged; the capacity may have
-        // grown.
+        // Refused: only without room. The element comes back, and elements and hash index are unchanged. The capacity
+        // may have grown.
         ensures refused { OnErr result (IsRefused self.old self.new) }
         ensures full { OnErr result (self.old.room ≡ 0) }
         ensures handed_back { IfErr result (λ refused. refused.0 ≡ element) }
@@ -189,8 +189,8 @@ impl<T: Eq> OrderedSet<T> {
         self.0.insert_unique_unchecked(element)
     }
 
-    /// Sorts the elements; equal ones keep their order. Where they ascend already it asks for no memory. A refusal
-    /// leaves the elements as they were. Capacity and index stay.
+    /// Sorts the elements; equal ones keep their order. If they ascend already, no memory is asked for. A refusal
+    /// leaves the elements as they were. Capacity and hash index stay.
     pub fn sort(&mut self) -> Result<(), AllocError>
     where
         T: Ord,
@@ -199,21 +199,21 @@ impl<T: Eq> OrderedSet<T> {
         self.0.sort()
     }
 
-    /// Removes the element under the query's own hash that the query stands for, and answers it. The index of each
-    /// later one falls by one. Capacity and index stay.
+    /// Removes the element under the query's own hash that the query stands for, and returns it. The index of each
+    /// later element falls by one. Capacity and hash index stay.
     #[inline]
     pub fn take<Q: Query<T> + Hash>(&mut self, query: Q) -> Option<T>
         // The stored element that was found comes back, and the query stands for it.
         ensures taken { result ≡ get_key Q.stands_for Q.hash_input self.old query }
         ensures there { is_some result ≡ contains Q.stands_for Q.hash_input self.old query }
         ensures equivalent { IfSome result (λ element. IsTrue (Q.stands_for query element)) }
-        // What the set is now.
+        // The set now, by look-ups and as a list.
         ensures removes { Removes T.eq (Q.stands_for query) (own_hash Q.hash_input query) self.old self.new }
     {
         self.0.take(query)
     }
 
-    /// Removes each element. Capacity and index stay for those to come.
+    /// Removes all elements. Capacity and hash index stay.
     pub fn clear(&mut self)
     where
         T: Drop,
@@ -221,13 +221,13 @@ impl<T: Eq> OrderedSet<T> {
         ensures entries { self.new.entries ≡ [] }
         ensures lacks { IsEmpty self.new }
         ensures own { (feeds : T → HashWrites) → AreOwn feeds self.new }
-        // No room is lost; capacity and index stay.
+        // No room is lost, and capacity and hash index stay.
         ensures kept { KeepsMemory self.old self.new }
     {
         self.0.clear();
     }
 
-    /// Turns the order of the elements round. Capacity and index stay.
+    /// Reverses the order of the elements. Capacity and hash index stay.
     pub fn reverse(&mut self)
         ensures { Turns T.eq self.old self.new }
     {
@@ -238,7 +238,7 @@ impl<T: Eq> OrderedSet<T> {
 impl<T: Eq> From<SmallSet<T>> for OrderedSet<T> {
     ghost from_gives = { λ set ordered. ordered ≡ set };
 
-    /// The same elements, room, capacity and index.
+    /// Takes the set over, with its elements, room, capacity and hash index.
     #[inline]
     fn from(set: SmallSet<T>) -> Self {
         OrderedSet(set)
@@ -246,30 +246,32 @@ impl<T: Eq> From<SmallSet<T>> for OrderedSet<T> {
 }
 
 impl<T: Eq + Hash + Drop> OrderedSet<T> {
-    /// Inserts the items in their order, each under its own hash, as `insert` does. It reserves nothing, and where
-    /// there is room for all of them, capacity and index stay. Where a new element is refused, the items that came
-    /// before are there and have used up the room, and it and the others are dropped. The capacity grows as by
-    /// insertions one after the other. The iterator must end.
+    /// Inserts the items in their order, each under its own hash. An item whose equal is there is dropped, and the
+    /// stored one stays. Nothing is reserved first. With room for all items, capacity and hash index stay; otherwise
+    /// the capacity grows as by one insertion after the other. An item is refused only if it is new, there is no room
+    /// left, and memory is refused or the set has 3,489,660,928 elements. Then the items before it are in the set, and
+    /// it and the items after it are dropped. The call requires that the iterator's type bounds its items.
     pub fn extend<I: IntoIterator<Item = T>>(&mut self, iter: I) -> Result<(), AllocError>
         requires { IsFiniteIterable I.into_iter_gives I.IntoIter.can_next I.IntoIter.remaining iter }
-        // Done: the set has each of the items, and what it had.
+        // Done: the set has each of the items, and each element that it had.
         ensures found { OnOk result (HasEach T.eq T.hash_input I.IntoIter.next_gives I.into_iter_gives iter (contains T.eq T.hash_input self.old) self.new) }
-        // Done or refused: the items were inserted, or those before a new one; what was there stays, under whatever hash.
+        // Done: all items were inserted. Refused: those before the refused one were inserted. What was there stays,
+        // under whatever hash.
         ensures entries { Extends T.eq (own_element T.hash_input) I.IntoIter.next_gives I.into_iter_gives iter self.old.entries self.new.entries result }
         ensures stays { (under : StarlarkHashValue) (element : T) → is_some (found (T.eq element) under self.old.entries) ≡ true → is_some (found (T.eq element) under self.new.entries) ≡ true }
         ensures longer { length self.old.entries ≤ length self.new.entries }
         ensures own { AreOwn T.hash_input self.old → AreOwn T.hash_input self.new }
-        // With room for all items no memory is asked for; each item uses up one at most.
+        // With room for all items no memory is asked for. Each item uses up at most one unit of room.
         ensures memory { IsExtended ((it : _) → I.into_iter_gives iter it → size (I.IntoIter.remaining it) ≤ self.old.room) self.old self.new result }
         ensures left { (it : _) × I.into_iter_gives iter it × (self.old.room ≤ self.new.room + size (I.IntoIter.remaining it)) }
     {
         self.0.extend(iter)
     }
 
-    /// A set of the items, inserted in their order, each under its own hash. It begins with room for the lower bound of
-    /// the iterator's `size_hint`. Where memory is refused, nothing is made and the items are dropped. Capacity and
-    /// index are as `SmallMap::from_iter` makes them. Where the iterator bounds that it has no items, it is not refused.
-    /// The iterator must end.
+    /// Makes a set of the items, inserted in their order, each under its own hash. The set begins with room for the
+    /// lower bound of the iterator's `size_hint`. If memory is refused, nothing is made and the items are dropped.
+    /// Capacity and hash index are as `SmallMap::from_iter` makes them. If the iterator's bound leaves no items, the
+    /// call is not refused. The call requires that the iterator's type bounds its items.
     pub fn from_iter<I: IntoIterator<Item = T>>(alloc: Global, iter: I) -> Result<Self, AllocError>
         requires { IsFiniteIterable I.into_iter_gives I.IntoIter.can_next I.IntoIter.remaining iter }
         ensures made { IfOk result (IsSetOf T.eq T.hash_input I.IntoIter.next_gives I.into_iter_gives I.IntoIter.remaining iter) }
@@ -280,10 +282,9 @@ impl<T: Eq + Hash + Drop> OrderedSet<T> {
 }
 
 impl<T: Eq + Clone> OrderedSet<T> {
-    /// A set of clones of the elements under the same hashes, in their order, so that the same elements are found in it.
-    /// Its capacity is their number, and it has an index exactly where it is longer than `UNINDEXED`. Where memory is
-    /// refused, also to the clone of an element, nothing is made. Without elements it is not refused. Required is that a
-    /// clone of an element is equal to it.
+    /// Makes a set of clones of the elements, under the same hashes and in their order. The same elements are found in
+    /// it. Its capacity is their number, and it has a hash index exactly if that is above `UNINDEXED`. If memory is
+    /// refused, also to the clone of an element, nothing is made. Without elements the call is not refused.
     pub fn clone(&self) -> Result<Self, AllocError>
         // A clone is equal to its element.
         requires { IsEqualClone T.eq T.is_clone }

@@ -1,4 +1,4 @@
-//! The set, a map whose every value is `()`. It alone sees that map.
+//! A set: a map whose values are all `()`. The files of this module alone see that map.
 ghost use Rattle.starlark_small.specs.New.{IsBare, MakesEmptyFor};
 ghost use Rattle.std.specs.Prelude.{◌≡◌, ◌-◌, ◌≤◌, ◌==◌, length, ◌<◌, ◌^◌};
 ghost use Rattle.starlark_small.specs.Memory.{Reserves};
@@ -6,6 +6,7 @@ ghost use Rattle.starlark_small.specs.Memory.{Reserves};
 mod clone;
 mod collect;
 mod compare;
+mod debug;
 mod get;
 mod get_or_insert;
 mod insert;
@@ -19,17 +20,17 @@ use starlark_small::SmallMap;
 use std::alloc::{AllocError, Global};
 use std::marker::Model;
 
-/// A set that walks in the order of insertion. It is seen as the map whose keys are the elements and whose every value
-/// is `()`.
+/// A set that iterates in the order of insertion. A contract sees it as the map whose keys are the elements and whose
+/// values are all `()`.
 ///
-/// An element stands under a hash that its caller brings, which need not be its own: a look-up finds the element of
-/// that hash that is equal. No two elements have the same hash and are equal. A list that has grown longer than
-/// `UNINDEXED` has an index, which changes no answer. The walks go from both ends, with exact length and
-/// size hint.
+/// An element is stored under a hash that its caller supplies, which need not be its own. A look-up finds the equal
+/// element that is stored under the query's hash. No two elements have the same hash and are equal. A list that has
+/// grown longer than `UNINDEXED` has a hash index, which changes no answer. The iterators run from both ends, with
+/// exact length and size hint.
 #[derive(Drop)]
 pub struct SmallSet<T: Eq> {
     map: SmallMap<T, ()>,
-    // Where `get_or_insert_owned` gets the memory of an element.
+    // The allocator from which `index_or_insert_owned` takes the memory of a new element.
     alloc: Global,
 }
 
@@ -42,7 +43,7 @@ impl<T: Eq> Model for SmallSet<T> {
 }
 
 impl<T: Eq> SmallSet<T> {
-    /// An empty set without room, capacity and index. It asks for no memory until the first insertion.
+    /// Makes an empty set without room, capacity and hash index. It asks for no memory until the first insertion.
     #[inline]
     pub fn new(alloc: Global) -> Self
         ensures { IsBare result }
@@ -53,8 +54,9 @@ impl<T: Eq> SmallSet<T> {
         }
     }
 
-    /// An empty set of this capacity, with room for so many elements, and with an index where so many need one. Where
-    /// memory is refused, or for more than 3,489,660,928 elements, nothing is made; capacity 0 asks for none.
+    /// Makes an empty set of this capacity, with room for that many elements, and with a hash index if that many need
+    /// one. If memory is refused, or for more than 3,489,660,928 elements, nothing is made. Capacity 0 asks for no
+    /// memory.
     pub fn with_capacity(alloc: Global, capacity: usize) -> Result<Self, AllocError>
         ensures { MakesEmptyFor capacity result }
     {
@@ -64,7 +66,7 @@ impl<T: Eq> SmallSet<T> {
         })
     }
 
-    /// How many elements there are.
+    /// Returns the number of elements.
     #[inline]
     pub fn len(&self) -> usize
         ensures len { result ≡ length self.now.entries }
@@ -73,7 +75,7 @@ impl<T: Eq> SmallSet<T> {
         self.map.len()
     }
 
-    /// Whether there are no elements.
+    /// Returns whether there are no elements.
     #[inline]
     pub fn is_empty(&self) -> bool
         ensures { result ≡ (length self.now.entries == 0) }
@@ -81,7 +83,7 @@ impl<T: Eq> SmallSet<T> {
         self.map.is_empty()
     }
 
-    /// How many elements there may be before the list grows.
+    /// Returns the number of elements that the list can hold before it grows.
     #[inline]
     pub fn capacity(&self) -> usize
         ensures capacity { result ≡ self.now.capacity }
@@ -90,9 +92,9 @@ impl<T: Eq> SmallSet<T> {
         self.map.capacity()
     }
 
-    /// Makes room for so many new elements, and an index where the length with them is above `UNINDEXED`. Where the room
-    /// is there it asks for no memory and changes nothing. A refusal leaves elements and index; the capacity may have
-    /// grown.
+    /// Makes room for this many new elements, and a hash index if the length with them is above `UNINDEXED`. If the
+    /// room is there, the call asks for no memory and changes nothing. A refusal leaves elements and hash index
+    /// unchanged. The capacity may have grown.
     pub fn reserve(&mut self, additional: usize) -> Result<(), AllocError>
         ensures reserves { Reserves additional self.old self.new result }
     {

@@ -1,4 +1,4 @@
-//! The elements of one set, and then those of another that it lacks.
+//! The iterator over a union of two sets.
 ghost use Rattle.std.specs.Prelude.{◌≡◌, ◌+◌, ◌-◌, ◌^◌, length, min, IfSome};
 ghost use Rattle.std.specs.Iterator.{UpTo, at_most};
 ghost use Rattle.std.specs.Iterator.SizeHint.{IsWithinCount};
@@ -8,8 +8,9 @@ use crate::difference::Difference;
 use starlark_small::IterHashed;
 use std::marker::Model;
 
-/// The elements of one set, and then those of another that it lacks, in order. An element is looked for under the hash
-/// that it stands under. It is seen as what it has left of the first set, and the other's `Difference` to that set.
+/// An iterator over the elements of one set, and then over those of another that it lacks, in order. Those are looked
+/// up under their stored hashes. A contract sees what is left of the first set, and the other's `Difference` to that
+/// set.
 #[derive(Drop)]
 pub struct Union<'a, T: Eq> {
     first: IterHashed<'a, T, ()>,

@@ -40,10 +40,9 @@ fn put_member(members: &mut Map<String, Value>, key: &String, value: i64) -> Res
 }
 
 /// The map of an object: its members in ascending order of their keys, each under its key's own hash. Any other value is
-/// `NotObject`. Otherwise the first member whose value is not an integer of 64 bits decides, as `NotInteger`. Memory for a
-/// member is asked only after its value, and those before, were found to be integers. So neither an empty object, nor one
-/// whose first member is at fault, is refused for memory. No result shows at which member memory was refused. On a fault
-/// nothing is made.
+/// `NotObject`. It is `NotInteger` if a member's value is no integer of 64 bits, and memory sufficed for the members before
+/// it. It is `Memory` if memory was refused at a member: its value and those before it are integers. No result shows which
+/// member it was. An empty object is never refused. On a fault nothing is made.
 pub fn map_from_value(alloc: Global, value: &Value) -> Result<SmallMap<String, i64>, JsonFault>
     ensures entries { IfOk result (λ map. map_entries (view value.now) ≡ Some (text_entries map.entries)) }
     ensures ascends { IfOk result (λ map. IsStrictlySortedBy text_cmp (texts_of map.entries)) }

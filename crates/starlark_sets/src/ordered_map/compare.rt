@@ -1,4 +1,4 @@
-//! How `OrderedMap`s compare, and what they feed to a hasher.
+//! The comparisons of `OrderedMap`s, and what they feed to a hasher.
 ghost use Rattle.std.proofs.Common.{refl};
 ghost use Rattle.std.specs.Cmp.{on_per, on_equiv, on_total, partial_order_from_agreeing_total};
 ghost use Rattle.std.specs.Ordering.{as_partial_cmp, on};
@@ -11,7 +11,8 @@ use crate::ordered::{cmp_hashes, cmp_pairs};
 use std::cmp::Ordering;
 use std::hash::{Hash, Hasher};
 
-/// Maps are equal where they have as many entries and, item by item, the same hash, equal keys and equal values.
+/// Maps are equal if they have the same number of entries and, at each index, the same hash, equal keys and equal
+/// values.
 impl<K: Eq, V: PartialEq> PartialEq for OrderedMap<K, V> {
     ghost eq = { on (λ m. m.entries) (same_ordered K.eq V.eq) };
 
@@ -26,7 +27,7 @@ impl<K: Eq, V: Eq> Eq for OrderedMap<K, V> {
     ghost laws = { on_equiv (λ m. m.entries) (same_order_equiv K.Eq.laws V.Eq.laws) };
 }
 
-/// Of each entry its hash as one number of 32 bits, and then what its value writes.
+/// A map feeds, for each entry, its hash as one number of 32 bits and then what its value feeds.
 impl<K: Eq, V: Hash> Hash for OrderedMap<K, V> {
     ghost hash_input = { λ m. ordered_feed V.hash_input m.entries };
 
@@ -47,7 +48,7 @@ impl<K: Ord, V: Ord> PartialOrd for OrderedMap<K, V> {
     }
 }
 
-/// By the lists of keys and values, and then by the lists of hashes, so that equal means `==`.
+/// Maps are ordered by their lists of keys and values and then by their lists of hashes, so `Equal` means `==`.
 impl<K: Ord, V: Ord> Ord for OrderedMap<K, V> {
     ghost cmp = { on (λ m. m.entries) (entries_cmp K.cmp V.cmp) };
 

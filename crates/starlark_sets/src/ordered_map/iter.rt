@@ -1,4 +1,4 @@
-//! The walks of an `OrderedMap`: those that lend its entries, write its values, and take it apart.
+//! The iterators of an `OrderedMap`, which lend its entries, write its values, or take it apart.
 ghost use Rattle.std.specs.Prelude.{◌≡◌, map, ◌^◌, ◌<◌, length};
 ghost use Rattle.std.specs.Map.{values_of};
 ghost use Rattle.std.specs.Map.Iter.{deref, deref_pair};
@@ -12,7 +12,7 @@ use super::OrderedMap;
 use starlark_small::{IntoIter, Iter, IterHashed, IterMut, Keys, Values, ValuesMut};
 
 impl<K: Eq, V> OrderedMap<K, V> {
-    /// The keys and values in order.
+    /// Returns an iterator over the keys and values in order.
     #[inline]
     pub fn iter(&self) -> Iter<'_, K, V>
         ensures pairs { result ≡ map pair_of self.now.entries }
@@ -22,7 +22,7 @@ impl<K: Eq, V> OrderedMap<K, V> {
         self.0.iter()
     }
 
-    /// The keys in order.
+    /// Returns an iterator over the keys in order.
     #[inline]
     pub fn keys(&self) -> Keys<'_, K, V>
         ensures keys { result ≡ map entry_key self.now.entries }
@@ -31,7 +31,7 @@ impl<K: Eq, V> OrderedMap<K, V> {
         self.0.keys()
     }
 
-    /// The values in order.
+    /// Returns an iterator over the values in order.
     #[inline]
     pub fn values(&self) -> Values<'_, K, V>
         ensures values { result ≡ map entry_value self.now.entries }
@@ -40,7 +40,7 @@ impl<K: Eq, V> OrderedMap<K, V> {
         self.0.values()
     }
 
-    /// The entries in order, each key under its hash. No two have the same hash and equal keys.
+    /// Returns an iterator over the entries in order, each key under its hash.
     #[inline]
     pub fn iter_hashed(&self) -> IterHashed<'_, K, V>
         ensures entries { result ≡ self.now.entries }
@@ -50,8 +50,8 @@ impl<K: Eq, V> OrderedMap<K, V> {
         self.0.iter_hashed()
     }
 
-    /// The keys and values in order, to write the values. The map ends with what is left in them; keys, hashes, order,
-    /// room, capacity and index stay.
+    /// Returns an iterator over the keys and values in order, which lends the values. The map ends with what is left in
+    /// them. Keys, hashes, order, room, capacity and hash index stay.
     #[inline]
     pub fn iter_mut(&mut self) -> IterMut<'_, K, V>
         ensures* writes_back { sem 𝓛 (values_follow K.row V.row K.PartialEq self.entry result.1) }
@@ -62,8 +62,8 @@ impl<K: Eq, V> OrderedMap<K, V> {
         self.as_mut_small_map().iter_mut()
     }
 
-    /// The values in order, to write them. The map ends with what is left in them; keys, hashes, order, room, capacity
-    /// and index stay.
+    /// Returns an iterator over the values in order, which lends them. The map ends with what is left in them. Keys,
+    /// hashes, order, room, capacity and hash index stay.
     #[tactic(auto, using(starlark_vecmap::proofs::WrittenValues::written))]
     #[inline]
     pub fn values_mut(&mut self) -> ValuesMut<'_, K, V>
@@ -83,7 +83,7 @@ impl<K: Eq + Drop, V: Drop> IntoIterator for OrderedMap<K, V> {
 
     ghost into_iter_gives = { λ m rest. (rest ≡ map pair_of m.entries) × GivesEach m.entries rest (K × V) };
 
-    /// The keys and values by value, in order.
+    /// Returns an iterator over the keys and values by value, in order.
     #[inline]
     fn into_iter(self) -> IntoIter<K, V>
         ensures into_iter_gives { (result ≡ map pair_of self.entries) × GivesEach self.entries result (K × V) }
@@ -100,7 +100,7 @@ impl<'a, K: Eq, V> IntoIterator for &'a OrderedMap<K, V> {
 
     ghost into_iter_gives = { λ m rest. (rest ≡ map pair_of m.now.entries) × ShowsEach m.now.entries rest (deref_pair {K = K} {X = V}) };
 
-    /// The keys and values in order.
+    /// Returns an iterator over the keys and values in order.
     #[inline]
     fn into_iter(self) -> Iter<'a, K, V>
         ensures into_iter_gives { (result ≡ map pair_of self.now.entries) × ShowsEach self.now.entries result (deref_pair {K = K} {X = V}) }
@@ -117,7 +117,7 @@ impl<'a, K: Eq, V> IntoIterator for &'a mut OrderedMap<K, V> {
 
     ghost into_iter_gives = { λ m rest. (rest.0 ≡ map pair_of m.now.entries) × (length m.now.entries < 2 ^ 64) };
 
-    /// The keys and values in order, to write the values, as `iter_mut` gives them.
+    /// Returns the iterator of `iter_mut`.
     #[inline]
     fn into_iter(self) -> IterMut<'a, K, V>
         ensures* writes_back { sem 𝓛 (values_follow K.row V.row K.PartialEq self.entry result.1) }

@@ -1,4 +1,4 @@
-//! How `OrderedSet`s compare, and what they feed to a hasher.
+//! The comparisons of `OrderedSet`s, and what they feed to a hasher.
 ghost use Rattle.std.specs.Prelude.{[]};
 ghost use Rattle.std.proofs.Common.{refl};
 ghost use Rattle.std.specs.Cmp.{on_equiv, on_per, on_total, partial_order_from_agreeing_total};
@@ -13,7 +13,7 @@ use crate::ordered::{cmp_hashes, cmp_pairs};
 use std::cmp::Ordering;
 use std::hash::{Hash, Hasher};
 
-/// Sets are equal where they have as many elements and, item by item, the same hash and equal elements.
+/// Sets are equal if they have the same number of elements and, at each index, the same hash and equal elements.
 impl<T: Eq> PartialEq for OrderedSet<T> {
     ghost eq = { on (λ s. s.entries) (same_ordered T.eq same_unit) };
 
@@ -28,7 +28,7 @@ impl<T: Eq> Eq for OrderedSet<T> {
     ghost laws = { on_equiv (λ s. s.entries) (same_order_equiv T.Eq.laws unit_equiv) };
 }
 
-/// Of each element its hash as one number of 32 bits.
+/// A set feeds the hash of each element, as one number of 32 bits.
 impl<T: Eq> Hash for OrderedSet<T> {
     ghost hash_input = { λ s. set_feed s.entries };
 
@@ -49,7 +49,7 @@ impl<T: Ord> PartialOrd for OrderedSet<T> {
     }
 }
 
-/// By the lists of elements, and then by the lists of hashes, so that equal means `==`.
+/// Sets are ordered by their lists of elements and then by their lists of hashes, so `Equal` means `==`.
 impl<T: Ord> Ord for OrderedSet<T> {
     ghost cmp = { on (λ s. s.entries) (entries_cmp T.cmp unit_cmp) };
 

@@ -11,10 +11,10 @@ use super::OrderedSet;
 use starlark_hash::{Hashed, NoRoom};
 use std::hash::Hash;
 
-/// An element that was refused, and the one that is there.
+/// A refused element, and the equal one that is there.
 #[derive(Debug, Drop)]
 pub struct OccupiedError<'a, T> {
-    /// The element that was refused.
+    /// The refused element.
     pub value: T,
     /// The element that is there.
     pub occupied: &'a T,
@@ -25,11 +25,11 @@ pub struct OccupiedError<'a, T> {
 pub enum TryInsertError<'a, T> {
     /// An equal element is there, under the same hash.
     Occupied(OccupiedError<'a, T>),
-    /// There was no room, and no memory was found.
+    /// There was no room, and memory was refused.
     Memory(NoRoom<T>),
 }
 
-// The same, by the index of the element that is there.
+// Why `insert_new` refused an element. `Placed` has the index of the equal element that is there.
 #[derive(Drop)]
 enum Refusal<T> {
     Placed(usize, T),
@@ -37,9 +37,9 @@ enum Refusal<T> {
 }
 
 impl<T: Eq> OrderedSet<T> {
-    /// Inserts an element that is new under its own hash, last. Where an equal one is there, this one is neither
-    /// inserted nor dropped: `Occupied` hands it back beside the one that is there, and nothing changes. Where a new
-    /// one finds no room and no memory, `Memory` hands it back, and elements and index stay.
+    /// Appends an element that is new under its own hash. If an equal one is there, `Occupied` hands this one back
+    /// beside it, and nothing changes. If a new one finds no room and memory is refused, `Memory` hands it back, and
+    /// elements and hash index are unchanged.
     pub fn try_insert(&mut self, value: T) -> Result<(), TryInsertError<'_, T>>
     where
         T: Hash,
@@ -50,7 +50,7 @@ impl<T: Eq> OrderedSet<T> {
         told(self.frozen(), tried)
     }
 
-    // The set, which is no longer written.
+    // Returns the set by a shared reference, so that it is no longer written.
     fn frozen(&mut self) -> &Self
         ensures* set { sem 𝓛 (ordered_ends_so T.row T.PartialEq self.entry (λ new. new ≡ self.old)) }
         ensures now { result.now ≡ self.old }
@@ -58,7 +58,7 @@ impl<T: Eq> OrderedSet<T> {
         self
     }
 
-    // Inserts an element that is new under its own hash, or answers the index of the one that is there.
+    // Appends an element that is new under its own hash, or returns it with the index of the equal one that is there.
     fn insert_new(&mut self, value: T) -> Result<(), Refusal<T>>
     where
         T: Hash,
@@ -77,7 +77,7 @@ impl<T: Eq> OrderedSet<T> {
     }
 }
 
-// The refusal, with the element at its index.
+// Turns the index of a refusal into the element there.
 fn told<'a, T: Eq>(
     set: &'a OrderedSet<T>,
     tried: Result<(), Refusal<T>>,

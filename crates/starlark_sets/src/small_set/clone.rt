@@ -1,4 +1,4 @@
-//! `SmallSet`s made of clones.
+//! Clones of a `SmallSet`.
 ghost use Rattle.starlark_hash.specs.Clone.{IsEqualClone};
 ghost use Rattle.starlark_small.specs.Clone.{Clones};
 ghost use Rattle.starlark_hash.specs.Unit.{IsUnitClone};
@@ -7,10 +7,9 @@ use super::SmallSet;
 use std::alloc::AllocError;
 
 impl<T: Eq + Clone> SmallSet<T> {
-    /// A set of clones of the elements under the same hashes, in their order, so that the same elements are found in it.
-    /// Its capacity is their number, and it has an index exactly where it is longer than `UNINDEXED`. Where memory is
-    /// refused, also to the clone of an element, nothing is made. Without elements it is not refused. Required is that a
-    /// clone of an element is equal to it.
+    /// Makes a set of clones of the elements, under the same hashes and in their order. The same elements are found in
+    /// it. Its capacity is their number, and it has a hash index exactly if that is above `UNINDEXED`. If memory is
+    /// refused, also to the clone of an element, nothing is made. Without elements the call is not refused.
     pub fn clone(&self) -> Result<Self, AllocError>
         // A clone of an element is equal to it.
         requires { IsEqualClone T.eq T.is_clone }

@@ -1,4 +1,4 @@
-//! What a `SmallSet` has: elements by hash, by equality under their own hash, and by index.
+//! The look-ups of a `SmallSet`: under a precomputed hash, under the query's own hash, and by index.
 ghost use Rattle.std.specs.Option.{option_copied, option_map};
 ghost use Rattle.std.specs.Prelude.{◌≡◌, ◌-◌, IfSome, IsTrue, length, slice_get, is_some};
 ghost use Rattle.starlark_hash.specs.Entries.{entry_key};
@@ -12,7 +12,7 @@ use starlark_hash::{Equivalent, Hashed, Query};
 use std::hash::Hash;
 
 impl<T: Eq> SmallSet<T> {
-    /// The element under the query's own hash that the query stands for.
+    /// Returns the element under the query's own hash that the query stands for.
     #[inline(always)]
     pub fn get<Q: Query<T> + Hash>(&self, value: Q) -> Option<&T>
         // The stored element that is found comes back, and the query stands for it.
@@ -23,7 +23,7 @@ impl<T: Eq> SmallSet<T> {
         self.get_hashed(Hashed::new(value))
     }
 
-    /// The element under this hash that the query stands for.
+    /// Returns the element under this hash that the query stands for.
     #[inline(always)]
     #[tactic(auto, using(crate::proofs::Callers::lookups))]
     pub fn get_hashed<Q: Query<T>>(&self, value: Hashed<Q>) -> Option<&T>
@@ -36,7 +36,7 @@ impl<T: Eq> SmallSet<T> {
         Some(element)
     }
 
-    /// The index of the element under the query's own hash that the query stands for.
+    /// Returns the index of the element under the query's own hash that the query stands for.
     #[inline(always)]
     pub fn get_index_of<Q: Query<T> + Hash>(&self, value: Q) -> Option<usize>
         ensures { NamesIndex (Q.stands_for value) (own_hash Q.hash_input value) self.now result }
@@ -44,7 +44,7 @@ impl<T: Eq> SmallSet<T> {
         self.map.get_index_of(value)
     }
 
-    /// The index of the element under this hash that the query stands for.
+    /// Returns the index of the element under this hash that the query stands for.
     #[inline(always)]
     pub fn get_index_of_hashed<Q: Query<T>>(&self, value: Hashed<Q>) -> Option<usize>
         ensures { NamesIndex (Q.stands_for (key_of value)) (hash_of value) self.now result }
@@ -52,7 +52,8 @@ impl<T: Eq> SmallSet<T> {
         self.map.get_index_of_hashed(value)
     }
 
-    /// As `get_index_of_hashed`, by an `Equivalent` that is handed over and dropped.
+    /// Returns the index of the element under this hash that is equivalent to the query, which is passed by value and
+    /// dropped.
     #[inline]
     pub fn get_index_of_hashed_by_value<Q: Equivalent<T> + Drop>(
         &self,
@@ -63,27 +64,27 @@ impl<T: Eq> SmallSet<T> {
         self.map.get_index_of_hashed_by_value(value)
     }
 
-    /// Whether there is an element under the query's own hash that the query stands for.
+    /// Returns whether there is an element under the query's own hash that the query stands for.
     #[inline(always)]
     pub fn contains<Q: Query<T> + Hash>(&self, key: Q) -> bool
-        // Whether an element is found, and then the set has one that the query stands for.
+        // Whether an element is found. If so, the query stands for one of the set's elements.
         ensures found { result ≡ contains Q.stands_for Q.hash_input self.now key }
         ensures key { IsTrue result → HasKey (Q.stands_for key) self.now }
     {
         self.map.contains_key(key)
     }
 
-    /// Whether there is an element under this hash that the query stands for.
+    /// Returns whether there is an element under this hash that the query stands for.
     #[inline(always)]
     pub fn contains_hashed<Q: Query<T>>(&self, key: Hashed<Q>) -> bool
-        // Whether an element is found, and then the set has one that the query stands for.
+        // Whether an element is found. If so, the query stands for one of the set's elements.
         ensures found { result ≡ is_some (found (Q.stands_for (key_of key)) (hash_of key) self.now.entries) }
         ensures key { IsTrue result → HasKey (Q.stands_for (key_of key)) self.now }
     {
         self.map.contains_key_hashed(key)
     }
 
-    /// The element at an index; `None` past the end.
+    /// Returns the element at an index, or `None` past the end.
     #[inline]
     pub fn get_index(&self, index: usize) -> Option<&T>
         ensures { option_copied result ≡ option_map entry_key (slice_get self.now.entries index) }
@@ -92,7 +93,7 @@ impl<T: Eq> SmallSet<T> {
         Some(element)
     }
 
-    /// The first element, if there is one.
+    /// Returns the first element, if there is one.
     #[inline]
     pub fn first(&self) -> Option<&T>
         ensures { option_copied result ≡ option_map entry_key (slice_get self.now.entries 0) }
@@ -101,7 +102,7 @@ impl<T: Eq> SmallSet<T> {
         Some(element)
     }
 
-    /// The last element, if there is one.
+    /// Returns the last element, if there is one.
     #[inline]
     pub fn last(&self) -> Option<&T>
         ensures { option_copied result ≡ option_map entry_key (slice_get self.now.entries (length self.now.entries - 1)) }

@@ -1,4 +1,4 @@
-//! What puts elements into a `SmallSet`.
+//! The calls that insert an element into a `SmallSet`.
 ghost use Rattle.std.specs.Hash.{HashWrites};
 ghost use Rattle.std.specs.Prelude.{◌≡◌, false, not, true, IfErr, IfOk, IsOk, OnErr, OnOk, Some, is_some};
 ghost use Rattle.starlark_hash.specs.HashValue.{hash_of, key_of};
@@ -13,8 +13,8 @@ use starlark_hash::{Hashed, NoRoom};
 use std::hash::Hash;
 
 impl<T: Eq> SmallSet<T> {
-    /// Inserts an element under its own hash, and returns whether it was new. An element that is there stays, and this one
-    /// is dropped; a new one is appended. Only a new element is refused, where there is no room and no memory is found.
+    /// Inserts an element under its own hash, and returns whether it was new. An element that is there stays, and this
+    /// one is dropped; a new one is appended. Only a new element is refused, if there is no room and memory is refused.
     #[inline]
     pub fn insert(&mut self, key: T) -> Result<bool, NoRoom<T>>
     where
@@ -26,10 +26,10 @@ impl<T: Eq> SmallSet<T> {
         ensures there { contains T.eq T.hash_input self.old key ≡ true → IsOk result × (self.new ≡ self.old) }
         // The list now: an element that is there keeps its index, and a new one is appended.
         ensures inserts { OnOk result (Inserts T.eq self.old self.new (own_hashed T.hash_input key) tt) }
-        // Elements that are under their own hashes stay so, also where this one is refused.
+        // Elements that are under their own hashes stay so, also if this one is refused.
         ensures own { AreOwn T.hash_input self.old → AreOwn T.hash_input self.new }
-        // Refused: only a new element, only without room. It comes back, and elements and index are unchanged; the capacity
-        // may have grown.
+        // Refused: only a new element, only without room. It comes back, and elements and hash index are unchanged. The
+        // capacity may have grown.
         ensures refused { OnErr result (IsRefusedInsertion T.eq self.old self.new (own_hashed T.hash_input key)) }
         ensures handed_back { IfErr result (λ refused. refused.0 ≡ key) }
         // Done or refused: no room is lost, and with room to spare no memory is asked for.
@@ -42,8 +42,8 @@ impl<T: Eq> SmallSet<T> {
     }
 
     /// Inserts an element under a precomputed hash, and returns whether it was new. An element that is there stays, and
-    /// this one is dropped; a new one is appended. Only a new element is refused, where there is no room and no memory is
-    /// found. Capacity, room and index are left as `SmallMap::insert_hashed` leaves them.
+    /// this one is dropped; a new one is appended. Only a new element is refused, if there is no room and memory is
+    /// refused. Capacity, room and hash index are left as `SmallMap::insert_hashed` leaves them.
     #[tactic(auto, using(crate::proofs::Additions::additions))]
     pub fn insert_hashed(&mut self, key: Hashed<T>) -> Result<bool, NoRoom<Hashed<T>>>
     where
@@ -55,10 +55,10 @@ impl<T: Eq> SmallSet<T> {
         ensures there { is_some (found (T.eq (key_of key)) (hash_of key) self.old.entries) ≡ true → IsOk result × (self.new ≡ self.old) }
         // The list now: an element that is there keeps its index, and a new one is appended.
         ensures inserts { OnOk result (Inserts T.eq self.old self.new key tt) }
-        // Elements that are under their own hashes stay so, also where this one is refused.
+        // Elements that are under their own hashes stay so, also if this one is refused.
         ensures own { (feeds : T → HashWrites) → hash_of key ≡ own_hash feeds (key_of key) → AreOwn feeds self.old → AreOwn feeds self.new }
-        // Refused: only a new element, only without room. It comes back, and elements and index are unchanged; the capacity
-        // may have grown.
+        // Refused: only a new element, only without room. It comes back, and elements and hash index are unchanged. The
+        // capacity may have grown.
         ensures refused { OnErr result (IsRefusedInsertion T.eq self.old self.new key) }
         ensures handed_back { IfErr result (λ refused. refused.0 ≡ key) }
         // Done or refused: no room is lost, and with room to spare no memory is asked for.
@@ -70,8 +70,8 @@ impl<T: Eq> SmallSet<T> {
         }
     }
 
-    /// Appends a new element under its own hash, without a look-up. It is refused where there is no room and no memory is
-    /// found.
+    /// Appends a new element under its own hash, without a look-up. The element is refused if there is no room and
+    /// memory is refused.
     pub fn insert_unique_unchecked(&mut self, key: T) -> Result<(), NoRoom<T>>
     where
         T: Hash,
@@ -79,10 +79,10 @@ impl<T: Eq> SmallSet<T> {
         // Done: the element is the last, it is there now, and every other element is there if it was.
         ensures inserted { OnOk result (IsInserted self.old self.new (own_hashed T.hash_input key) tt) }
         ensures updates { OnOk result (Updates T.eq T.hash_input self.old self.new key (Some tt)) }
-        // Elements that are under their own hashes stay so, also where this one is refused.
+        // Elements that are under their own hashes stay so, also if this one is refused.
         ensures own { AreOwn T.hash_input self.old → AreOwn T.hash_input self.new }
-        // Refused: only without room. The element comes back, and elements and index are unchanged; the capacity may have
-        // grown.
+        // Refused: only without room. The element comes back, and elements and hash index are unchanged. The capacity
+        // may have grown.
         ensures refused { OnErr result (IsRefused self.old self.new) }
         ensures full { OnErr result (self.old.room ≡ 0) }
         ensures handed_back { IfErr result (λ refused. refused.0 ≡ key) }
@@ -93,8 +93,8 @@ impl<T: Eq> SmallSet<T> {
         }
     }
 
-    /// Appends an element that is new under a precomputed hash, without a look-up. It is refused where there is no room and
-    /// no memory is found.
+    /// Appends an element that is new under a precomputed hash, without a look-up. The element is refused if there is
+    /// no room and memory is refused.
     pub fn insert_hashed_unique_unchecked(
         &mut self,
         key: Hashed<T>,
@@ -103,10 +103,10 @@ impl<T: Eq> SmallSet<T> {
         // Done: the element is the last, it is there now, and every other element is there if it was.
         ensures inserted { OnOk result (IsInserted self.old self.new key tt) }
         ensures updates { OnOk result (Writes T.eq (T.eq (key_of key)) (hash_of key) self.old.entries self.new.entries (Some tt)) }
-        // Elements that are under their own hashes stay so, also where this one is refused.
+        // Elements that are under their own hashes stay so, also if this one is refused.
         ensures own { (feeds : T → HashWrites) → hash_of key ≡ own_hash feeds (key_of key) → AreOwn feeds self.old → AreOwn feeds self.new }
-        // Refused: only without room. The element comes back, and elements and index are unchanged; the capacity may have
-        // grown.
+        // Refused: only without room. The element comes back, and elements and hash index are unchanged. The capacity
+        // may have grown.
         ensures refused { OnErr result (IsRefused self.old self.new) }
         ensures full { OnErr result (self.old.room ≡ 0) }
         ensures handed_back { IfErr result (λ refused. refused.0 ≡ key) }

@@ -1,4 +1,4 @@
-//! The walks of a `SmallSet`: the list in order, from both ends.
+//! The calls that make the iterators of a `SmallSet`.
 ghost use Rattle.std.specs.Prelude.{◌≡◌, ◌^◌, ◌<◌, length, map};
 ghost use Rattle.std.specs.Map.{keys_of};
 ghost use Rattle.std.specs.Map.Iter.{deref};
@@ -12,7 +12,7 @@ use crate::iter::{IntoIter, IntoIterHashed, Iter, IterHashed};
 use starlark_small as map;
 
 impl<T: Eq> SmallSet<T> {
-    /// The elements in order of insertion.
+    /// Returns an iterator over the elements in order of insertion.
     #[inline]
     pub fn iter(&self) -> Iter<'_, T>
         ensures elements { result ≡ map entry_key self.now.entries }
@@ -21,7 +21,7 @@ impl<T: Eq> SmallSet<T> {
         self.map.keys()
     }
 
-    /// The elements in order of insertion, each under its hash. No two have the same hash and are equal.
+    /// Returns an iterator over the elements in order of insertion, each under its hash.
     #[inline]
     pub fn iter_hashed(&self) -> IterHashed<'_, T>
         ensures elements { result ≡ keys_of self.now.entries }
@@ -32,7 +32,7 @@ impl<T: Eq> SmallSet<T> {
         IterHashed::new(self.entries())
     }
 
-    // The entries of the map in order. No two have the same hash and equal keys.
+    // Returns an iterator over the entries of the map, in order.
     #[inline]
     pub(crate) fn entries(&self) -> map::IterHashed<'_, T, ()>
         ensures entries { result ≡ self.now.entries }
@@ -45,7 +45,7 @@ impl<T: Eq> SmallSet<T> {
 }
 
 impl<T: Eq + Drop> SmallSet<T> {
-    /// The elements by value, in order of insertion, each under its hash. No two have the same hash and are equal.
+    /// Returns an iterator over the elements by value, in order of insertion, each under its hash.
     #[inline]
     pub fn into_iter_hashed(self) -> IntoIterHashed<T>
         ensures elements { result ≡ keys_of self.entries }
@@ -64,7 +64,7 @@ impl<T: Eq + Drop> IntoIterator for SmallSet<T> {
 
     ghost into_iter_gives = { λ s rest. (rest ≡ map entry_key s.entries) × GivesEach s.entries rest T };
 
-    /// The elements by value, in order of insertion.
+    /// Returns an iterator over the elements by value, in order of insertion.
     #[inline]
     fn into_iter(self) -> IntoIter<T> {
         let SmallSet { map, alloc: _alloc } = self;
@@ -79,7 +79,7 @@ impl<'a, T: Eq> IntoIterator for &'a SmallSet<T> {
 
     ghost into_iter_gives = { λ s rest. (rest ≡ map entry_key s.now.entries) × ShowsEach s.now.entries rest (deref {X = T}) };
 
-    /// The elements in order of insertion.
+    /// Returns an iterator over the elements in order of insertion.
     #[inline]
     fn into_iter(self) -> Iter<'a, T> {
         self.iter()

@@ -1,4 +1,4 @@
-//! What takes elements out of a `SmallSet`. None of it asks for memory.
+//! The calls that remove elements of a `SmallSet`. None of them asks for memory.
 ghost use Rattle.std.specs.Hash.{HashWrites};
 ghost use Rattle.std.specs.Option.{IfNone, option_map};
 ghost use Rattle.std.specs.Prelude.{◌≡◌, ◌+◌, ◌-◌, [], IfSome, IsTrue, None, if◌then◌else◌, is_some, length, slice_get};
@@ -15,36 +15,36 @@ use starlark_hash::{Hashed, Query};
 use std::hash::Hash;
 
 impl<T: Eq> SmallSet<T> {
-    /// Removes the element under the query's own hash that the query stands for, and answers whether it was there. Those
-    /// after it move up. Capacity and index stay.
+    /// Removes the element under the query's own hash that the query stands for, and returns whether it was there. The
+    /// index of each later element falls by one. Capacity and hash index stay.
     #[inline]
     pub fn shift_remove<Q: Query<T> + Hash>(&mut self, key: Q) -> bool
     where
         T: Drop,
         // Whether an element was found.
         ensures found { result ≡ contains Q.stands_for Q.hash_input self.old key }
-        // What the set is now.
+        // The set now, by look-ups and as a list.
         ensures removes { Removes T.eq (Q.stands_for key) (own_hash Q.hash_input key) self.old self.new }
     {
         self.shift_remove_hashed(Hashed::new(key))
     }
 
-    /// Removes the element under this hash that the query stands for, and answers whether it was there. Those after it
-    /// move up. Capacity and index stay.
+    /// Removes the element under this hash that the query stands for, and returns whether it was there. The index of
+    /// each later element falls by one. Capacity and hash index stay.
     #[inline]
     pub fn shift_remove_hashed<Q: Query<T>>(&mut self, key: Hashed<Q>) -> bool
     where
         T: Drop,
         // Whether an element was found.
         ensures found { result ≡ is_some (found (Q.stands_for (key_of key)) (hash_of key) self.old.entries) }
-        // What the set is now.
+        // The set now, by look-ups and as a list.
         ensures removes { Removes T.eq (Q.stands_for (key_of key)) (hash_of key) self.old self.new }
     {
         self.map.shift_remove_hashed(key).is_some()
     }
 
-    /// Removes the element under the query's own hash that the query stands for, and answers it. The index of each
-    /// later one falls by one. Capacity and index stay.
+    /// Removes the element under the query's own hash that the query stands for, and returns it. The index of each
+    /// later element falls by one. Capacity and hash index stay.
     #[inline]
     #[tactic(auto, using(crate::proofs::Callers::lookups))]
     pub fn take<Q: Query<T> + Hash>(&mut self, key: Q) -> Option<T>
@@ -52,22 +52,22 @@ impl<T: Eq> SmallSet<T> {
         ensures taken { result ≡ get_key Q.stands_for Q.hash_input self.old key }
         ensures there { is_some result ≡ contains Q.stands_for Q.hash_input self.old key }
         ensures equivalent { IfSome result (λ element. IsTrue (Q.stands_for key element)) }
-        // What the set is now.
+        // The set now, by look-ups and as a list.
         ensures removes { Removes T.eq (Q.stands_for key) (own_hash Q.hash_input key) self.old self.new }
     {
         let (element, ()) = self.map.shift_remove_entry(key)?;
         Some(element)
     }
 
-    /// Removes the element at an index, and answers it. The index of each later one falls by one. Capacity and index
-    /// stay.
+    /// Removes the element at an index, and returns it. The index of each later element falls by one. Capacity and hash
+    /// index stay.
     #[tactic(auto, using(crate::proofs::Lookups::removals))]
     pub fn shift_remove_index(&mut self, i: usize) -> Option<T>
-        // The element at the index comes back: by index, by look-ups, and how many elements there are.
+        // The element at the index comes back. It is no longer found, and there is one element less.
         ensures taken { result ≡ option_map entry_key (slice_get self.old.entries i) }
         ensures takes { IfSome result (λ element. TakesOut T.eq self.old self.new element tt) }
         ensures count { length self.old.entries ≡ length self.new.entries + (if is_some result then 1 else 0) }
-        // What the set is now.
+        // The set now, by look-ups and as a list.
         ensures unchanged { IfNone result (self.new.entries ≡ self.old.entries) }
         ensures removes { RemovesAt self.old self.new i }
     {
@@ -75,15 +75,15 @@ impl<T: Eq> SmallSet<T> {
         Some(element)
     }
 
-    /// Removes the element at an index, and answers it under its hash. The index of each later one falls by one.
-    /// Capacity and index stay.
+    /// Removes the element at an index, and returns it under its hash. The index of each later element falls by one.
+    /// Capacity and hash index stay.
     #[tactic(auto, using(crate::proofs::Lookups::removals))]
     pub fn shift_remove_index_hashed(&mut self, i: usize) -> Option<Hashed<T>>
-        // The element at the index comes back: by index, by look-ups, and how many elements there are.
+        // The element at the index comes back. It is no longer found, and there is one element less.
         ensures taken { result ≡ option_map (λ e. e.0) (slice_get self.old.entries i) }
         ensures takes { IfSome (option_map key_of result) (λ element. TakesOut T.eq self.old self.new element tt) }
         ensures count { length self.old.entries ≡ length self.new.entries + (if is_some result then 1 else 0) }
-        // What the set is now.
+        // The set now, by look-ups and as a list.
         ensures updates { IfSome result (λ element. Writes T.eq (T.eq (key_of element)) (hash_of element) self.old.entries self.new.entries None) }
         ensures unchanged { IfNone result (self.new.entries ≡ self.old.entries) }
         ensures removes { RemovesAt self.old self.new i }
@@ -93,14 +93,14 @@ impl<T: Eq> SmallSet<T> {
         Some(element)
     }
 
-    /// Removes the last element, and answers it. Capacity and index stay.
+    /// Removes the last element, and returns it, or `None` if there is none. Capacity and hash index stay.
     #[tactic(auto, using(crate::proofs::Lookups::removals))]
     pub fn pop(&mut self) -> Option<T>
-        // The element at the index comes back: by index, by look-ups, and how many elements there are.
+        // The last element comes back. It is no longer found, and there is one element less.
         ensures taken { result ≡ option_map entry_key (slice_get self.old.entries (length self.old.entries - 1)) }
         ensures takes { IfSome result (λ element. TakesOut T.eq self.old self.new element tt) }
         ensures count { length self.old.entries ≡ length self.new.entries + (if is_some result then 1 else 0) }
-        // What the set is now.
+        // The set now, by look-ups and as a list.
         ensures unchanged { IfNone result (self.new.entries ≡ self.old.entries) }
         ensures removes { RemovesAt self.old self.new (length self.old.entries - 1) }
     {
@@ -108,7 +108,7 @@ impl<T: Eq> SmallSet<T> {
         Some(element)
     }
 
-    /// Removes each element. Capacity and index stay for those to come.
+    /// Removes all elements. Capacity and hash index stay.
     pub fn clear(&mut self)
     where
         T: Drop,
@@ -116,7 +116,7 @@ impl<T: Eq> SmallSet<T> {
         ensures entries { self.new.entries ≡ [] }
         ensures lacks { IsEmpty self.new }
         ensures own { (feeds : T → HashWrites) → AreOwn feeds self.new }
-        // No room is lost; capacity and index stay.
+        // No room is lost, and capacity and hash index stay.
         ensures kept { KeepsMemory self.old self.new }
     {
         self.map.clear();

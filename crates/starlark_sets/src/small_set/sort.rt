@@ -1,4 +1,4 @@
-//! What changes the order of a `SmallSet`.
+//! The calls that change the order of a `SmallSet`.
 ghost use Rattle.starlark_small.specs.Sort.{SortsByKey, Turns};
 ghost use Rattle.std.specs.Prelude.{◌-◌};
 
@@ -6,8 +6,8 @@ use super::SmallSet;
 use std::alloc::AllocError;
 
 impl<T: Eq> SmallSet<T> {
-    /// Sorts the elements; equal ones keep their order. Where they ascend already it asks for no memory. A refusal
-    /// leaves the elements as they were. Capacity and index stay.
+    /// Sorts the elements; equal ones keep their order. If they ascend already, no memory is asked for. A refusal
+    /// leaves the elements as they were. Capacity and hash index stay.
     pub fn sort(&mut self) -> Result<(), AllocError>
     where
         T: Ord,
@@ -16,7 +16,7 @@ impl<T: Eq> SmallSet<T> {
         self.map.sort_keys()
     }
 
-    /// Turns the order of the elements round: each is found as before. Capacity and index stay.
+    /// Reverses the order of the elements. Capacity and hash index stay.
     pub fn reverse(&mut self)
         ensures { Turns T.eq self.old self.new }
     {

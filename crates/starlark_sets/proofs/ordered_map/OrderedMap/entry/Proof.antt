@@ -1,4 +1,4 @@
--- `entry` lends the map inside for good, and hands on the entry that it gives. Assumes `Logic`.
+-- `entry` lends the map inside to the end of its own loan, and passes on the entry. Assumes `Logic`.
 use Rattle.starlark_columns.proofs.LogicNames.{◌≡◌, refl, sym, subst, ap, List, [], ◌∷◌, a_type, dcons, dnil, named, inst_fn, Val, vptr, ent, id⊢, ex_e, snd∗, GName, ftrue, WpFn, sem, ◌⊑◌, fact, tables, ‵, raw, ◌⊛◌, some, later, ◌$◌, ◌∵◌, !, qed, by, move, keep, use1, split, join, pick, fsplit3, fjoin, rewrite, Item, await, stop, addr, of_opd, and_then, no_more, returns, enter, alloc_all, pass_all, free_all, look_at, get, through, sets, lands_as, no, follows, Is, shows, param, bounded, param_laws, RattleType, owns, MutBor, MutRef, NamedLft, mut_vals, mut_Tells, plain, types_at, named_lft, nothing, heard, peeks, only, calls_at, ensured, lasts, triple_of, Contract, framed, walk_of, Goes-spent_ref, Goes-blank, proved_at, toks, tells, spent, drops, leaves, group}
 use Rattle.starlark_columns.proofs.LoneValue.{lone_value}
 use Rattle.starlark_small.proofs.entry.Entry.TheLaws as entry_laws

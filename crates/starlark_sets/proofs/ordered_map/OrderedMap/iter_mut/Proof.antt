@@ -1,4 +1,4 @@
--- `iter_mut` lends the map inside for good, and hands on what walks that. Assumes `Logic`.
+-- `iter_mut` lends the map inside to the end of its own loan, and passes on the iterator. Assumes `Logic`.
 use Rattle.starlark_columns.proofs.LogicNames.{◌≡◌, refl, ap, ◌∙◌, ◌<◌, ◌^◌, List, [], ◌∷◌, length, a_type, dcons, dnil, named, inst_fn, Val, vptr, SProp, id⊢, ex_e, snd∗, GName, ftrue, sem, ◌⊑◌, fact, tables, ‵, raw, ◌⊛◌, some, later, ◌$◌, ◌∵◌, !, qed, by, move, keep, drop, use1, use2, split, split3, join, pick, fsplit, fjoin, rewrite, Item, await, stop, addr, and_then, no_more, returns, enter, alloc_all, pass_all, free_all, look_at, get, through, sets, lands_as, follows, follows_then, Is, shows, param, bounded, param_laws, RattleType, owns, MutBor, MutRef, NamedLft, mut_vals, mut_Tells, types_at, named_lft, nothing, heard, peeks, only, calls_at, ensured, lasts, triple_of, Contract, framed, walk_of, proved, map, toks, tells, spent, drops, drops_go, leaves, group}
 use Rattle.starlark_hash.specs.Entries.{pair_of}
 use Rattle.starlark_vec2.proofs.pairs_mut.PairsMut.TheLaws as walk_laws
@@ -52,11 +52,11 @@ iter_mut_spec 𝓤 𝓛 𝓜 𝓡 wired K V LK LV E dE Q dQ is_eq is_partial =
     use1 𝓛 (later (some (λ (p : List (K.Denot × V.Denot) × GName). (tokens ⊛ ‵ (It.own_val p (t ∷ []))) ⊛ raw (ensured 𝓛 (w.ended K V E dE Q dQ) (w.clauses K V E dE Q dQ 𝓛 𝓜.mem 𝓡.returns) z2.0.0 z2.0.3 tt p)))) (id⊢ 𝓤 _) $ await ! tt $ pick ! (λ p. split ! $ move ! (1 ∷ []) $
     use1 𝓛 (‵ (follows Inner Inner x.ghost_name p.1 (with x.now)) ⊛ raw (fact 𝓤 (p.0 ≡ map pair_of x.now.entries)) ⊛ raw (fact 𝓤 (length x.now.entries < 2 ^ 64)) ⊛ raw (fact 𝓤 (KeepsAllButValues Q.eq x.now))) (ex_e 𝓤 _ (λ ws. snd∗ 𝓤 (sem 𝓛 (lasts (w.ended K V E dE Q dQ) z2.0.0 z2.0.3 ws)) _)) $ split3 ! $
     move ! (1 ∷ []) $ heard ! (p.0 ≡ map pair_of x.now.entries) (λ pairs. move ! (1 ∷ []) $ split ! $ heard ! (length x.now.entries < 2 ^ 64) (λ fits. drop ! $
-    -- [what the map inside follows; the tokens with the walk; what self follows]
+    -- [what the map inside follows; the tokens with the iterator; what self follows]
     rewrite ! 0 (λ (n : Rep). ‵ (follows Inner Inner x.ghost_name p.1 (with n))) same refl $
     move ! (2 ∷ 0 ∷ []) $ use2 𝓛 (‵ (follows Outer Inner γ p.1 (with m))) (follows_then 𝓛 Outer Inner Inner (λ n. n) (with m) γ x.ghost_name p.1) $
     move ! (1 ∷ []) $ split ! $ move ! (1 ∷ []) $
-    -- [the walk; the tokens; what self follows]
+    -- [the iterator; the tokens; what self follows]
     peeks ! It (Is It) (shows 𝓛 It) p (t ∷ []) (λ known. let lone = lone_value 𝓛 It (walk_laws.the_row_laws lft K' V' (param_laws 0 K LK) (param_laws 1 V LV)) p (t ∷ []) known in
     rewrite ! 0 (λ (vs : List Val). ‵ (It.own_val p vs)) lone.1 refl $ lands_as ! (ap only lone.1) refl lone.2 $ returns ! (look_at ! 0 refl) $ free_all ! refl $
     tells ! (KeepsAllButValues Q.eq m) (keeps-all_but_values Q.eq m) $ tells ! (length m.entries < 2 ^ 64) (rw (← same) fits) $

@@ -1,4 +1,5 @@
--- `try_insert` meets its contract, at any element type: the set is lent to the call that inserts the element or refuses it and comes back, is then written no more, and shows the element that is there. Assumes `Logic`.
+-- `try_insert` meets its contract, at any element type. The set is lent to the call that inserts or refuses the element, and
+-- comes back; it is then written no more, and the element that is there is lent. Assumes `Logic`.
 use Rattle.starlark_columns.proofs.LogicNames.{arith, sep, [], ◌∷◌, refl, ◌∵◌, ◌$◌, !, qed, raw, ◌⊛◌, split3, heard, done, tells, a_type, dcons, dnil, fact, unit, param, bounded, layout, Laws, param_laws, of_field, copy_shared, named_lft, unit-field, unit-laws, unit-copy, result_laws, RattleType, IfErr, Result}
 use contract.Lifetimes.{Lfts}
 use Rattle.starlark_hash.proofs.Common.{Bool, HashWrites}

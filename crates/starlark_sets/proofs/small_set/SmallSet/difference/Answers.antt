@@ -23,6 +23,6 @@ returns-clause-runs g c =
     let eq = g.T.PartialEq.eq in from_front (DifferenceSteps eq) deref (difference_rest eq) (λ s t h. ap length h.0.0) (λ s x t h. h.0)
 
 pub returns-clause-members : goal.returns-clause-members
-returns-clause-members g c feeds alike own element =
+returns-clause-members g c own element =
     let is : c.new.result ≡ record { left = c.args.self.now.entries; other = c.args.other.now.entries } = search rules in
-    rw is (members-difference g.T.PartialEq.eq g.met.T.Eq.laws feeds alike c.args.self.now.entries c.args.other.now.entries own element)
+    rw is (members-difference g.T.PartialEq.eq g.met.T.Eq.laws g.T.Hash.hash_input g.met.T.Hash.respects_eq c.args.self.now.entries c.args.other.now.entries own element)

@@ -2,7 +2,6 @@ use Rattle.starlark_hash.proofs.Common.{◌≤◌, length, sym, subst}
 use Rattle.starlark_small.specs.Collect.{Collects}
 use Rattle.starlark_sets.specs.Collect.{own_element}
 use Rattle.starlark_sets.proofs.Collecting.{collected, collects_alone, has_collected, length-collected}
-use Rattle.starlark_sets.proofs.Members.{members-difference, members-union}
 use Rattle.starlark_sets.proofs.small_set.SmallSet.from_iter.Goals as goal
 
 pub returns-clause-made : goal.returns-clause-made
@@ -16,15 +15,3 @@ pub returns-clause-most : goal.returns-clause-most
 returns-clause-most g c =
     let new = c.in_ok-from_iter.field-0 in
     collected new (returns-clause-made g c).set (λ xs. length new.entries ≤ length xs) (λ xs is. length-collected g.T.PartialEq.eq (own_element g.T.Hash.hash_input) xs new.entries is)
-
-pub returns-clause-lacking : goal.returns-clause-lacking
-returns-clause-lacking g c = members-difference g.T.PartialEq.eq g.met.T.Eq.laws g.T.Hash.hash_input g.met.T.Hash.respects_eq
-
-pub returns-clause-either : goal.returns-clause-either
-returns-clause-either g c = members-union g.T.PartialEq.eq g.met.T.Eq.laws g.T.Hash.hash_input g.met.T.Hash.respects_eq
-
-pub returns-in_err-from_iter-clause-lacking : goal.returns-in_err-from_iter-clause-lacking
-returns-in_err-from_iter-clause-lacking g c = members-difference g.T.PartialEq.eq g.met.T.Eq.laws g.T.Hash.hash_input g.met.T.Hash.respects_eq
-
-pub returns-in_err-from_iter-clause-either : goal.returns-in_err-from_iter-clause-either
-returns-in_err-from_iter-clause-either g c = members-union g.T.PartialEq.eq g.met.T.Eq.laws g.T.Hash.hash_input g.met.T.Hash.respects_eq

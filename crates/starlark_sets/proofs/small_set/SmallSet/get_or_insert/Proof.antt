@@ -1,4 +1,5 @@
--- `get_or_insert` meets its contract, at any element type: the set is lent to the call that finds or puts the element and comes back, is then written no more, and shows the element. Assumes `Logic`.
+-- `get_or_insert` meets its contract, at any element type. The set is lent to the call that finds or appends the element, and
+-- comes back; it is then written no more, and the element is lent. Assumes `Logic`.
 use Rattle.starlark_columns.proofs.LogicNames.{arith, ◌<◌, [], ◌∷◌, length, a_type, dcons, dnil, named, refl, id⊢, fact, usize, param, bounded, layout, Laws, param_laws, of_field, copy_shared, ShrRef, usize-field, usize-laws, usize-copy, result_laws, RattleType, IfOk, Lft}
 use Rattle.starlark_columns.proofs.ProofSteps.{shr_laws}
 use Rattle.core.specs.contracts.result.Result as RS

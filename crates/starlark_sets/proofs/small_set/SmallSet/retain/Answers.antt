@@ -5,7 +5,8 @@ use Rattle.starlark_sets.specs.Retain.{CalledAtElement, TakesElement}
 use Rattle.starlark_vecmap.proofs.MappedRetention.{takes_carried, retains_carried}
 use Rattle.starlark_sets.proofs.small_set.SmallSet.retain.Goals as goal
 
--- calls that answer by a test of the item and leave it, in states that they keep, filter the list
+-- a list is filtered by calls that answer by a test of the item and leave it, if they keep the state of the closure within what
+-- is assumed
 filtered_by : {F X : Type 0} (calls : F → X → Bool → X → F → Type 0) (test : X → Bool) (kept_state : F → Type 0)
     → ((f : F) (x : X) (keeps : Bool) (y : X) (left : F) → kept_state f → calls f x keeps y left → (keeps ≡ test x) × (y ≡ x) × kept_state left)
     → (f : F) → kept_state f → (xs kept : List X) → Retains calls f xs kept → kept ≡ filter test xs

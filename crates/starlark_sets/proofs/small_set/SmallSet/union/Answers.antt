@@ -26,6 +26,6 @@ returns-clause-runs g c =
     let eq = g.T.PartialEq.eq in from_front (UnionSteps eq) deref (union_rest eq) (λ s t h. ap length h.0.0) (λ s x t h. h.0)
 
 pub returns-clause-members : goal.returns-clause-members
-returns-clause-members g c feeds alike mine theirs element =
+returns-clause-members g c mine theirs element =
     rw (c.new-2.ensures, c.new.ensures, c.entries-first.ensures.entries, c.entries.ensures.entries)
-    (members-union g.T.PartialEq.eq g.met.T.Eq.laws feeds alike c.args.self.now.entries c.args.other.now.entries mine theirs element)
+    (members-union g.T.PartialEq.eq g.met.T.Eq.laws g.T.Hash.hash_input g.met.T.Hash.respects_eq c.args.self.now.entries c.args.other.now.entries mine theirs element)
