@@ -1,15 +1,15 @@
 -- What an insertion and a removal make of a list of pairs: by look-ups, and of its length.
-use Rattle.starlark_hash.proofs.Common.{◌≡◌, ◌+◌, ℕ, Bool, false, cond, List, [], ◌∷◌, ◌++◌, Option, Some, None, refl, sym, ap, ◌∙◌, subst, arith, common_steps, is_some, length, if◌then◌else◌, inl, inr, zero, suc, option_map}
+use Rattle.starlark_hash.proofs.Common.{◌≡◌, ◌+◌, ℕ, Bool, false, cond, List, [], ◌∷◌, ◌++◌, Option, Some, None, IfSome, get_or_from_slice_get, refl, remove, slice_get, slice_get-map, slice_get_within, sym, ap, ◌∙◌, subst, arith, common_steps, is_some, length, if◌then◌else◌, inl, inr, zero, suc, option_map}
 use Rattle.std.specs.Cmp.{IsEquivalence}
 use Rattle.std.specs.List.{IsDistinct}
 use Rattle.std.specs.Map.{IsKeyTest, KeepsOthers, keys_of, lookup, remove_entry, set_value}
 use Rattle.std_collections.specs.Layout.Columns.{set_value_at}
 use Rattle.std_collections.proofs.Entries.{at_others, lookup-remove_entry, lookup-remove_entry_apart, lookup-remove_entry_same, lookup-set_value, lookup-set_value_apart, lookup-set_value_same, keys-set_value, length-set_value}
-use Rattle.std_collections.proofs.HashLookup.{IsAbsent, IsFirst, IsFirst-or_none, Updated, Updated-push, Updated-set}
+use Rattle.std_collections.proofs.HashLookup.{IsAbsent, IsFirst, IsFirst-from_index, IsFirst-or_none, Updated, Updated-push, Updated-set}
 use Rattle.starlark_dict.specs.Dict.{Dict, insert_entry, UpdatesBy, WritesThrough, memory, room}
 
 module _ {K V : Type 0} (eq : K → K → Bool) (k : K) (v : V) where
-  insert_entry-first : (es : List (K × V)) (i : ℕ) → IsFirst (eq k) es i → insert_entry eq es k v ≡ set_value_at es i v
+  pub insert_entry-first : (es : List (K × V)) (i : ℕ) → IsFirst (eq k) es i → insert_entry eq es k v ≡ set_value_at es i v
   insert_entry-first [] i h = absurd h
   insert_entry-first (e ∷ es) zero h = ap (λ b. if b then (e.0, v) ∷ es else e ∷ insert_entry eq es k v) h
   insert_entry-first (e ∷ es) (suc i) h =
@@ -53,6 +53,11 @@ module _ {K V : Type 0} (eq : K → K → Bool) (laws : IsEquivalence eq) (test 
     λ other is apart. lookup-remove_entry_apart test other apart es,
   )
 
+  removed-first : (es : List (K × V)) (i : ℕ) → IsFirst test es i → remove_entry test es ≡ remove es i
+  removed-first [] i h = absurd h
+  removed-first (e ∷ es) zero h = ap (λ b. cond b es (e ∷ remove_entry test es)) h
+  removed-first (e ∷ es) (suc i) h = ap (λ b. cond b es (e ∷ remove_entry test es)) h.0 ∙ ap (λ l. e ∷ l) (removed-first es i h.1)
+
   pub updated-written : (old new : Dict K V) (w : V) → new.entries ≡ set_value test old.entries w → memory new ≡ memory old → room new ≡ room old → IsDistinct eq (keys_of old.entries) → WritesThrough eq test old w new
   unfolding KeepsOthers
   updated-written old new w put kept spare unique = rw put (
@@ -69,3 +74,13 @@ module _ {K V : Type 0} (eq : K → K → Bool) (laws : IsEquivalence eq) (test 
     kept,
     spare,
   )
+
+-- what a removal at an index leaves, by look-ups, and how many
+module _ {K V : Type 0} (eq : K → K → Bool) (laws : IsEquivalence eq) (es : List (K × V)) (unique : IsDistinct eq (keys_of es)) (i : ℕ) where
+  pub updated-taken : (d e : Dict K V) → d.entries ≡ es → e.entries ≡ remove es i → (r : Option (K × V)) → r ≡ slice_get es i → IfSome r (λ p. UpdatesBy eq (eq p.0) d e None)
+  updated-taken d e was is None at = tt
+  updated-taken d e was is (Some p) at =
+      let key = slice_get-map (λ (q : K × V). q.0) es i ∙ ap (option_map (λ (q : K × V). q.0)) (sym at) in
+      let passes = ap (eq p.0) (get_or_from_slice_get (keys_of es) i p.0 p.0 key) ∙ laws.refl p.0 in
+      let first = IsFirst-from_index eq laws (eq p.0) (laws.congr p.0) es i p.0 unique (slice_get_within es i p (sym at)) passes in
+      updated-removed eq laws (eq p.0) (laws.congr p.0) es unique d e was (is ∙ sym (removed-first eq laws (eq p.0) (laws.congr p.0) es i first))

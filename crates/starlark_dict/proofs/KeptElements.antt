@@ -1,7 +1,9 @@
 -- What a retention of a dictionary's pairs is to its keys, where the closure looks at the key alone.
-use Rattle.starlark_hash.proofs.Common.{[], ◌∙◌, ◌∷◌, ◌≡◌, Bool, Bor, CalledAt, FoldsTo, List, Mut, ap, cond, filter, keys_of}
+use Rattle.starlark_hash.proofs.Common.{[], ◌∙◌, ◌∷◌, ◌≡◌, Bool, Bor, CalledAt, FoldsTo, List, Mut, TakesAt, ap, cond, filter, keys_of, map-append}
 use Rattle.std.specs.Map.Calls.{CallableOnEachPair, RetainsPairs, SomeCallAtPair}
 use Rattle.std_collections.proofs.SetLists.{cond_map}
+use Rattle.starlark_hash.specs.Retain.{MayLeave}
+use Rattle.starlark_dict.specs.Retain.{CallableOnEach}
 
 -- calls of one closure, seen as calls of another
 module _ {F G K X : Type 0} (calls : F → K → X → Bool → X → F → Type 0) (seen : G → K → X → Bool → X → G → Type 0) (st : F → G)
@@ -25,3 +27,12 @@ module _ {F K X : Type 0} (g : Mut F (Bor K × Unit {0}) Bool) (test : K → Boo
       let s = says f e.0 b f' so called in
       let more = keys_filtered f' s.1 es rest others in
       ap keys_of is ∙ cond_map keys_of b ((e.0, w) ∷ rest) rest ∙ (λ i. cond (s.0 i) (e.0 ∷ more i) (more i))
+
+-- a closure that may be called at each key in turn may be called at each pair
+module _ {F K X : Type 0} (g : Mut F (Bor K × Unit {0}) Bool) where
+  folds_keys : (f : F) (es : List (K × X)) (last : F) → FoldsTo (SomeCallAtPair (λ f k v b w f'. CalledAt g f k b f')) f es last → FoldsTo (MayLeave (λ f x keeps y f'. CalledAt g f x keeps f')) f (keys_of es) last
+  folds_keys f [] last same = same
+  folds_keys f (e ∷ es) last (f', (b, w, called), rest) = (f', (b, e.0, called), folds_keys f' es last rest)
+
+  pub callable_on_pairs : (f : F) (es : List (K × X)) → CallableOnEach g f (keys_of es) → CallableOnEachPair (λ f k v b w f'. CalledAt g f k b f') (λ f k v. TakesAt g f k) f es
+  callable_on_pairs f es can = record { at = λ before after last k v is folds. can.at (keys_of before) (keys_of after) last k (ap keys_of is ∙ map-append (λ (p : K × X). p.0) before ((k, v) ∷ after)) (folds_keys f before last folds) }

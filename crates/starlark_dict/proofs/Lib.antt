@@ -11,3 +11,4 @@ pub mod Compared
 pub mod Elements
 pub mod KeptElements
 pub mod Gathered
+pub mod EntryLemmas

@@ -1,5 +1,5 @@
 -- Entries under own hashes, seen as the list of their pairs: look-up, insertion, removal.
-use Rattle.starlark_hash.proofs.Common.{◌≡◌, ℕ, zero, suc, Bool, true, false, cond, List, [], ◌∷◌, ◌++◌, Option, Some, None, refl, sym, ap, ◌∙◌, arith, common_steps, nat_tests, position, option_map, option_map_or, map, remove, All, All-head, All-tail, HashWrites, IsTrue, ◌<◌, length, get_or, length-map, Bor, IfSome, option_copied}
+use Rattle.starlark_hash.proofs.Common.{◌≡◌, ℕ, zero, suc, Bool, true, false, cond, List, [], ◌∷◌, ◌++◌, Option, Some, None, refl, sym, ap, ◌∙◌, arith, common_steps, nat_tests, position, option_map, option_map_or, map, remove, All, All-head, All-tail, HashWrites, IsTrue, ◌<◌, length, get_or, length-map, Bor, IfSome, option_copied, slice_get, slice_get-map}
 use Rattle.std.specs.Map.{lookup, lookup_key, remove_entry, set_value, keys_of, values_of}
 use Rattle.std.specs.List.{IsAmong, IsDistinct}
 use Rattle.std.proofs.lemmas.Map.Keys.{IsDistinct-from_apart}
@@ -119,7 +119,7 @@ module _ {Q K V : Type 0} (stands : Q → K → Bool) (query_feeds : Q → HashW
   agreeing : (k : K) → stands (key_of query) k ≡ true → own_hash feeds k ≡ hash_of query
   agreeing k does = ap hash_of_writes (sym (alike (key_of query) k does)) ∙ sym is
 
-  -- the same by a query under its own hash that feeds what its keys feed
+  -- by a query under its own hash that feeds what its keys feed
   pub found-query : AreOwnEntries feeds es → found (stands (key_of query)) (hash_of query) es ≡ lookup (stands (key_of query)) (map pair_of es)
   found-query own = found-own feeds (stands (key_of query)) (hash_of query) agreeing es own
 
@@ -154,9 +154,12 @@ module _ {K V : Type 0} where
   pub length-pairs : (es : List (Entry K V)) → length (map pair_of es) ≡ length es
   length-pairs es = length-map es pair_of
 
-  -- a value of an entry is one of a pair
+  pub pair-at : (es : List (Entry K V)) (i : ℕ) → slice_get (map pair_of es) i ≡ option_map pair_of (slice_get es i)
+  pair-at es i = slice_get-map pair_of es i
+
+  -- what is among the entries' values is among the pairs' values
   pub among-pairs : (es : List (Entry K V)) (r : Option (Bor V)) → IfSome (option_copied r) (IsAmong (map entry_value es)) → IfSome r (λ v. IsAmong (values_of (map pair_of es)) v.now)
   among-pairs es None among = tt
   among-pairs es (Some v) among = rw (values-pairs es) among
 
-pub ruleset own_pairs = (found-own, length-pairs, keys-pairs, values-pairs)
+pub ruleset own_pairs = (found-query, found_key-query, position-query, unique-own, length-pairs, keys-pairs, values-pairs, pair-at, among-pairs)

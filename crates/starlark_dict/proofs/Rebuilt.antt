@@ -1,4 +1,4 @@
--- A dictionary that is made again pair by pair, from pairs of which no two have equal keys: each key is new, so it goes last.
+-- A dictionary that is made again pair by pair, from pairs of which no two have equal keys: each key is new, so it is appended.
 use Rattle.starlark_hash.proofs.Common.{◌≡◌, ◌∙◌, ◌++◌, ◌∷◌, Bool, IsEquivalence, List, None, Some, [], ap, arith, cond, drop, false, get_or, length, lookup, map, refl, sym}
 use Rattle.std.specs.List.{AllByRecursion, IsDistinct}
 use Rattle.std.proofs.lemmas.Map.{none_passes_from_lookup}
@@ -8,7 +8,7 @@ use Rattle.starlark_dict.specs.Dict.{insert_entry}
 use Rattle.starlark_dict.proofs.Changes.{insert_entry-absent}
 
 module _ {K V : Type 0} (eq : K → K → Bool) (k : K) (v : V) where
-  absent : (es : List (K × V)) → AllByRecursion (λ p. eq k p.0 ≡ false) es → IsAbsent (eq k) es
+  pub absent : (es : List (K × V)) → AllByRecursion (λ p. eq k p.0 ≡ false) es → IsAbsent (eq k) es
   absent [] h = h
   absent (e ∷ es) h = (h.0, absent es h.1)
 

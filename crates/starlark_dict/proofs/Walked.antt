@@ -1,4 +1,4 @@
--- A dictionary after a walk that writes its values.
+-- A dictionary after an iteration that writes its values.
 use Rattle.starlark_hash.proofs.Common.{◌≡◌, ◌∙◌, Bool, List, [], ◌∷◌, ap, is_some, map, refl, sym, values_of}
 use Rattle.std_collections.specs.Layout.Columns.{set_values}
 use Rattle.std_collections.specs.Layout.HashMap.{hash_map}
@@ -18,7 +18,7 @@ module _ {K V : Type 0} where
   written-again (e ∷ es) [] = ap (λ l. pair_of e ∷ l) (written-again es [])
   written-again (e ∷ es) (w ∷ ws) = ap (λ l. ((pair_of e).0, w.1) ∷ l) (written-again es ws)
 
-  -- what the walk leaves in the small map inside, it leaves in the pairs
+  -- what the iteration leaves in the small map inside, it leaves in the pairs
   pub with_values-again : (m : Map K V) (ws : List (Entry K V)) → with_values (dict_of m) (values (dict_of (record m { entries = list.with_values m.entries ws }))) ≡ dict_of (record m { entries = list.with_values m.entries ws })
   unfolding with_values
   with_values-again m ws = ap (λ es. hash_map es (record { capacity = m.capacity; indexed = m.indexed }) m.room) (written-again m.entries ws)

@@ -13,7 +13,7 @@ use Rattle.starlark_vec2.specs.PairList.{pair_list}
 use Rattle.starlark_small.specs.Index.{unindexed}
 use Rattle.starlark_small.specs.Map.{Map}
 
--- the memory of a map: how many entries the list holds before it grows, and whether there is an index
+-- the memory of a map: how many entries the list holds before it grows, and whether there is a hash index
 pub record Memory : Type 0 where
   pub capacity : ℕ
   pub indexed : Bool
@@ -32,7 +32,7 @@ abbrev pub dict_of : {K V : Type 0} → Map K V → Dict K V
 dict_of m = hash_map (map pair_of m.entries) (record { capacity = m.capacity; indexed = m.indexed }) m.room
 
 module _ {K V : Type 0} (eq : K → K → Bool) where
-  -- the entries after `insert`: a key that is there keeps its place and takes the value, and a new key goes last
+  -- the entries after `insert`: a key that is there keeps its place and takes the value, and a new key is appended
   abbrev pub insert_entry : List (K × V) → K → V → List (K × V)
   insert_entry [] k v = (k, v) ∷ []
   insert_entry (e ∷ es) k v = if eq k e.0 then (e.0, v) ∷ es else e ∷ insert_entry es k v
@@ -58,7 +58,7 @@ module _ {K V : Type 0} where
   abbrev pub StaysOrGrows : ℕ → Dict K V → Dict K V → Type 0
   StaysOrGrows n old new = ((memory new).capacity ≡ (memory old).capacity) ⊎ ((memory new).capacity ≡ reserved_capacity old n)
 
-  -- no room is lost, and capacity and index stay
+  -- no room is lost, and capacity and hash index stay
   abbrev pub KeepsMemory : Dict K V → Dict K V → Type 0
   KeepsMemory old new = KeepsRoom old new × (memory new ≡ memory old)
 
@@ -76,8 +76,8 @@ module _ {K V T U : Type 0} (eq : K → K → Bool) (steps : T → Option (K × 
   abbrev pub FindsLast : (K → Option V) → Dict K V → Type 0
   FindsLast before d = (it : T) × becomes iter it × WholeRun steps it (λ p. (key : K) → get eq d key ≡ update_all eq before p.items key)
 
--- what an insertion leaves of the memory, done or refused. With room to spare capacity and index stay. The capacity is the old
--- one, or that after a reservation for one new key; and there is an index if there was one or the map is now longer than
+-- what an insertion leaves of the memory, done or refused. With room to spare capacity and hash index stay. The capacity is the old
+-- one, or that after a reservation for one new key; and there is a hash index if there was one or the map is now longer than
 -- the threshold
 pub record LeavesMemory {K V : Type 0} (old new : Dict K V) : Type 0 where
   pub spare : 0 < room old → memory new ≡ memory old

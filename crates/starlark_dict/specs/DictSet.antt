@@ -1,7 +1,7 @@
 -- What a contract sees of a `DictSet`: the record that it sees of std's `HashSet`, whose `keys` are here the elements in the set's
 -- order, with the memory in the place of the hasher. So the words and the lemmas of std on a `HashSet` serve, and this page passes
 -- the words on.
-pub use Rattle.std.specs.HashSet.{contains, contains_by, contains_text, get_by, spare as room, hasher_of as memory, IsEmpty, IsUnique, IsUnchanged, IsReordered, IsDifference, IsFromIterResult, IsUnion, Updates, UpdatesBy, hash_set_eq as set_eq, hash_set_len as set_len}
+pub use Rattle.std.specs.HashSet.{contains, contains_by, contains_text, get_by, spare as room, hasher_of as memory, IsClone, IsEmpty, IsUnique, IsUnchanged, IsReordered, IsDifference, IsFromIterResult, IsUnion, Updates, UpdatesBy, hash_set_eq as set_eq, hash_set_len as set_len}
 pub use Rattle.std.specs.Set.{remove_key}
 use Rattle.std.specs.Prelude.{◌≡◌, ℕ, ◌+◌, ◌≤◌, Bool, not, List, ◌∷◌, [], ◌++◌, Option, filter, fold, if◌then◌else◌, map, position}
 use Rattle.std.specs.Iterator.Runs.{WholeRun}
@@ -33,7 +33,7 @@ module _ {T : Type 0} where
   KeepsMemory old new = KeepsRoom old new × (memory new ≡ memory old)
 
 module _ {T : Type 0} (eq : T → T → Bool) where
-  -- the elements after `insert`: they stay if one is equal to x, and else x goes last
+  -- the elements after `insert`: they stay if one is equal to x, and else x is appended
   abbrev pub insert_key : List T → T → List T
   insert_key xs x = if list_any (eq x) xs then xs else xs ++ x ∷ []
 

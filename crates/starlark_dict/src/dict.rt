@@ -7,6 +7,8 @@ mod clone;
 mod collect;
 mod compare;
 mod convert;
+mod debug;
+pub mod entry;
 mod get;
 mod get_mut;
 mod insert;
@@ -21,8 +23,8 @@ use std::alloc::{AllocError, Global};
 use std::hash::Hash;
 use std::marker::Model;
 
-/// A map that walks in the order of insertion, with each key under its own hash. It is seen as the list of its keys and
-/// values, its room, and its memory: no contract names a hash.
+/// A map that iterates in the order of insertion, until a sort or `reverse` changes it, with each key under its own hash. It
+/// is seen as the list of its keys and values, its room, and its memory: no contract names a hash.
 #[derive(Drop)]
 pub struct Dict<K: Eq + Hash, V> {
     map: SmallMap<K, V>,
@@ -72,6 +74,7 @@ impl<K: Eq + Hash, V> Dict<K, V> {
 
     /// How many entries there are. No two have equal keys.
     #[inline]
+    #[tactic(auto, using(crate::proofs::OwnPairs::own_pairs))]
     pub fn len(&self) -> usize
         ensures len { result ≡ dict_len self.now }
         ensures unique { IsUnique K.eq self.now }
@@ -83,6 +86,7 @@ impl<K: Eq + Hash, V> Dict<K, V> {
 
     /// Whether there are no entries.
     #[inline]
+    #[tactic(auto, using(crate::proofs::OwnPairs::own_pairs))]
     pub fn is_empty(&self) -> bool
         ensures { result ≡ (dict_len self.now == 0) }
     {
@@ -107,6 +111,7 @@ impl<K: Eq + Hash, V> Dict<K, V> {
 
     /// Makes room for so many new keys. Where the room is there it asks for no memory and changes nothing. A refusal
     /// leaves the entries as they were.
+    #[tactic(auto, using(crate::proofs::OwnPairs::own_pairs))]
     pub fn reserve(&mut self, additional: usize) -> Result<(), AllocError>
         ensures entries { IsUnchanged self.old self.new }
         ensures enough { OnOk result (additional ≤ room self.new) }

@@ -4,8 +4,10 @@ ghost use Rattle.starlark_small.specs.Index.{unindexed};
 ghost use Rattle.starlark_dict.specs.Dict.{StaysOrGrows};
 ghost use Rattle.starlark_dict.specs.DictSet.{as_dict, memory, room, set_len, IsEmpty, IsUnchanged, IsUnique, KeepsRoom};
 
+mod clone;
 mod collect;
 mod compare;
+mod debug;
 mod get;
 mod insert;
 mod iter;
@@ -20,8 +22,8 @@ use std::hash::Hash;
 use std::marker::Model;
 pub use union::{Difference, Union};
 
-/// A set that walks in the order of insertion. It is seen as the list of its elements, its room, and its memory: no
-/// contract names a hash.
+/// A set that iterates in the order of insertion, until a sort or `reverse` changes it. It is seen as the list of its
+/// elements, its room, and its memory: no contract names a hash.
 #[derive(Drop)]
 pub struct DictSet<T: Eq + Hash> {
     dict: Dict<T, ()>,
@@ -69,6 +71,7 @@ impl<T: Eq + Hash> DictSet<T> {
 
     /// How many elements there are. No two are equal.
     #[inline]
+    #[tactic(auto, using(crate::proofs::Elements::elements))]
     pub fn len(&self) -> usize
         ensures len { result ≡ set_len self.now }
         ensures unique { IsUnique T.eq self.now }
@@ -78,6 +81,7 @@ impl<T: Eq + Hash> DictSet<T> {
 
     /// Whether there are no elements.
     #[inline]
+    #[tactic(auto, using(crate::proofs::Elements::elements))]
     pub fn is_empty(&self) -> bool
         ensures { result ≡ (set_len self.now == 0) }
     {
@@ -102,6 +106,7 @@ impl<T: Eq + Hash> DictSet<T> {
 
     /// Makes room for so many new elements. Where the room is there it asks for no memory and changes nothing. A refusal
     /// leaves the elements as they were.
+    #[tactic(auto, using(crate::proofs::Elements::elements))]
     pub fn reserve(&mut self, additional: usize) -> Result<(), AllocError>
         ensures elements { IsUnchanged self.old self.new }
         ensures enough { OnOk result (additional ≤ room self.new) }

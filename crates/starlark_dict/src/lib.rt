@@ -1,4 +1,4 @@
-//! Dictionaries: maps and sets that walk in the order of insertion, and are seen without a hash.
+//! Dictionaries: maps and sets that iterate in the order of insertion, and are seen without a hash.
 #![tactic(auto)]
 
 pub mod dict;
@@ -6,4 +6,5 @@ pub mod dict_set;
 pub mod macros;
 
 pub use dict::Dict;
+pub use dict::entry::{Entry, OccupiedEntry, VacantEntry};
 pub use dict_set::{DictSet, Difference, Union};

@@ -15,7 +15,8 @@ impl<K: Eq + Hash + Drop, V: Drop> FromIterator<(K, V)> for Dict<K, V> {
 
     /// A dictionary of the items, inserted in their order, so that each key has its last value. It begins with room for
     /// the lower bound of the iterator's `size_hint`. Where memory is refused, nothing is made and the items are
-    /// dropped; an iterator that bounds that it has no items is not refused. The iterator must end.
+    /// dropped; an iterator that bounds that it has no items is not refused. The call requires that the iterator's type
+    /// bounds its items.
     fn from_iter<I: IntoIterator<Item = (K, V)>>(alloc: Global, iter: I) -> Result<Self, AllocError>
         requires { IsFiniteIterable I.into_iter_gives I.IntoIter.can_next I.IntoIter.remaining iter }
         ensures ran { IfOk result (λ d. (it : I.IntoIter) × (xs : List (K × V)) × I.into_iter_gives iter it × DrainsIf I.IntoIter.next_gives ⊤ it xs × (d.entries ≡ insert_all K.eq [] xs) × IsFromIterResult K.eq xs d) }
@@ -33,7 +34,8 @@ impl<K: Eq + Hash + Drop, V: Drop> Extend<(K, V)> for Dict<K, V> {
     ghost extend_gives = { Extends K.eq };
 
     /// Inserts the items in their order, as `insert` does. It reserves nothing. Where a new key is refused, the items
-    /// that came before are there, and it and the others are dropped. The iterator must end.
+    /// that came before are there, and it and the items after it are dropped. The call requires that the iterator's
+    /// type bounds its items.
     fn extend<I: IntoIterator<Item = (K, V)>>(&mut self, iter: I) -> Result<(), AllocError>
         requires { IsFiniteIterable I.into_iter_gives I.IntoIter.can_next I.IntoIter.remaining iter }
         ensures ran { ExtendsWithItems I.into_iter_gives I.IntoIter.next_gives (Extends K.eq) iter self.old self.new result }

@@ -1,4 +1,4 @@
-//! How dictionaries compare, what they feed to a hasher, and how they print.
+//! How dictionaries compare, and what they feed to a hasher.
 ghost use Rattle.std.specs.Cmp;
 ghost use Rattle.std.specs.Cmp.{partial_equiv_from_equiv};
 ghost use Rattle.std.specs.HashMap.{hash_map_eq};
@@ -7,7 +7,6 @@ ghost use Rattle.std.specs.Prelude.{◌≡◌, fold};
 ghost use Rattle.starlark_dict.specs.Compare.{ordered_feed, same_ordered};
 
 use super::Dict;
-use std::fmt;
 use std::hash::{Hash, Hasher};
 
 /// Two are equal where they have the same keys, with an equal value at each. The order does not count.
@@ -45,11 +44,5 @@ impl<K: Eq + Hash, V> Dict<K, V> {
         ensures { state.new ≡ fold H.write state.old (ordered_feed K.hash_input V.hash_input self.now.entries) }
     {
         self.map.hash_ordered(state);
-    }
-}
-
-impl<K: Eq + Hash + fmt::Debug, V: fmt::Debug> fmt::Debug for Dict<K, V> {
-    fn fmt<W: fmt::Write>(&self, f: &mut fmt::Formatter<W>) -> fmt::Result {
-        f.debug_map().entries(self.map.iter()).finish()
     }
 }

@@ -23,6 +23,7 @@ impl<K: Eq + Hash, V> Dict<K, V> {
 
     /// `get` by a hash that was computed before, and is the query's own.
     #[inline(always)]
+    #[tactic(auto, using(crate::proofs::OwnPairs::own_pairs))]
     pub fn get_hashed<Q: HashQuery<K>>(&self, key: Hashed<Q>) -> Option<&V>
         requires { hash_of key ≡ own_hash Q.hash_input (key_of key) }
         ensures value { option_copied result ≡ get_by (Q.stands_for (key_of key)) self.now }
@@ -41,6 +42,7 @@ impl<K: Eq + Hash, V> Dict<K, V> {
 
     /// `contains_key` by a hash that was computed before, and is the query's own.
     #[inline(always)]
+    #[tactic(auto, using(crate::proofs::OwnPairs::own_pairs))]
     pub fn contains_key_hashed<Q: HashQuery<K>>(&self, key: Hashed<Q>) -> bool
         requires { hash_of key ≡ own_hash Q.hash_input (key_of key) }
         ensures { result ≡ is_some (get_by (Q.stands_for (key_of key)) self.now) }
@@ -60,6 +62,7 @@ impl<K: Eq + Hash, V> Dict<K, V> {
 
     /// `get_index_of` by a hash that was computed before, and is the query's own.
     #[inline(always)]
+    #[tactic(auto, using(crate::proofs::OwnPairs::own_pairs))]
     pub fn get_index_of_hashed<Q: HashQuery<K>>(&self, key: Hashed<Q>) -> Option<usize>
         requires { hash_of key ≡ own_hash Q.hash_input (key_of key) }
         ensures index { result ≡ index_of_by (Q.stands_for (key_of key)) self.now }
@@ -81,6 +84,7 @@ impl<K: Eq + Hash, V> Dict<K, V> {
 
     /// `get_full` by a hash that was computed before, and is the query's own.
     #[inline(always)]
+    #[tactic(auto, using(crate::proofs::OwnPairs::own_pairs))]
     pub fn get_full_hashed<Q: HashQuery<K>>(&self, key: Hashed<Q>) -> Option<(usize, &K, &V)>
         requires { hash_of key ≡ own_hash Q.hash_input (key_of key) }
         ensures index { option_map (λ found. found.0) result ≡ index_of_by (Q.stands_for (key_of key)) self.now }
@@ -92,6 +96,7 @@ impl<K: Eq + Hash, V> Dict<K, V> {
 
     /// The key and the value at an index; `None` past the end.
     #[inline]
+    #[tactic(auto, using(crate::proofs::OwnPairs::own_pairs))]
     pub fn get_index(&self, index: usize) -> Option<(&K, &V)>
         ensures entry { option_map deref_pair result ≡ slice_get self.now.entries index }
     {
@@ -100,6 +105,7 @@ impl<K: Eq + Hash, V> Dict<K, V> {
 
     /// The first key and its value, if there is one.
     #[inline]
+    #[tactic(auto, using(crate::proofs::OwnPairs::own_pairs))]
     pub fn first(&self) -> Option<(&K, &V)>
         ensures entry { option_map deref_pair result ≡ slice_get self.now.entries 0 }
     {
@@ -108,6 +114,7 @@ impl<K: Eq + Hash, V> Dict<K, V> {
 
     /// The last key and its value, if there is one.
     #[inline]
+    #[tactic(auto, using(crate::proofs::OwnPairs::own_pairs))]
     pub fn last(&self) -> Option<(&K, &V)>
         ensures entry { option_map deref_pair result ≡ slice_get self.now.entries (dict_len self.now - 1) }
     {

@@ -7,7 +7,7 @@ use starlark_hash::NoRoom;
 use std::hash::Hash;
 
 impl<K: Eq + Hash + Drop, V> Dict<K, V> {
-    /// Inserts a pair. A key that is there keeps its place, and the old value is returned. A new key goes last.
+    /// Inserts a pair. A key that is there keeps its place, and the old value is returned. A new key is appended.
     #[inline(always)]
     pub fn insert(&mut self, key: K, value: V) -> Result<Option<V>, NoRoom<(K, V)>>
         // On success `key` has `value`, its old value is returned, and other keys keep theirs.

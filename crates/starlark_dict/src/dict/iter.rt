@@ -1,4 +1,4 @@
-//! The walks: those that lend the entries, and those that take the map apart. Each goes from both ends, with exact length.
+//! The iterators: those that lend the entries, and those that take the map apart. Each goes from both ends, with exact length.
 ghost use Rattle.std.specs.Prelude.{◌≡◌, ◌^◌, ◌<◌, length};
 ghost use Rattle.std.specs.Map.Iter.{deref, deref_pair, GivesInOrder, GivesInReverse, ShowsInOrder, ShowsInReverse, ShowsValuesInOrder};
 ghost use Rattle.starlark_dict.specs.Dict.{dict_len, keys, values, IsUnique};
@@ -8,7 +8,7 @@ use starlark_small::{IntoIter, IntoKeys, IntoValues, Iter, Keys, Values};
 use std::hash::Hash;
 
 impl<K: Eq + Hash, V> Dict<K, V> {
-    /// The keys and values in order of insertion.
+    /// The keys and values in the map's order.
     #[inline]
     pub fn iter(&self) -> Iter<'_, K, V>
         ensures rest { result ≡ self.now.entries }
@@ -22,8 +22,9 @@ impl<K: Eq + Hash, V> Dict<K, V> {
         self.map.iter()
     }
 
-    /// The keys in order of insertion.
+    /// The keys in the map's order.
     #[inline]
+    #[tactic(auto, using(crate::proofs::OwnPairs::own_pairs))]
     pub fn keys(&self) -> Keys<'_, K, V>
         ensures rest { result ≡ keys self.now }
         ensures len { length result ≡ dict_len self.now }
@@ -35,8 +36,9 @@ impl<K: Eq + Hash, V> Dict<K, V> {
         self.map.keys()
     }
 
-    /// The values in order of insertion.
+    /// The values in the map's order.
     #[inline]
+    #[tactic(auto, using(crate::proofs::OwnPairs::own_pairs))]
     pub fn values(&self) -> Values<'_, K, V>
         ensures rest { result ≡ values self.now }
         ensures len { length result ≡ dict_len self.now }
@@ -50,8 +52,9 @@ impl<K: Eq + Hash, V> Dict<K, V> {
 }
 
 impl<K: Eq + Hash + Drop, V: Drop> Dict<K, V> {
-    /// The keys by value, in order of insertion.
+    /// The keys by value, in the map's order.
     #[inline]
+    #[tactic(auto, using(crate::proofs::OwnPairs::own_pairs))]
     pub fn into_keys(self) -> IntoKeys<K, V>
         ensures rest { result ≡ keys self }
         ensures len { length result ≡ dict_len self }
@@ -65,8 +68,9 @@ impl<K: Eq + Hash + Drop, V: Drop> Dict<K, V> {
         map.into_keys()
     }
 
-    /// The values by value, in order of insertion.
+    /// The values by value, in the map's order.
     #[inline]
+    #[tactic(auto, using(crate::proofs::OwnPairs::own_pairs))]
     pub fn into_values(self) -> IntoValues<K, V>
         ensures rest { result ≡ values self }
         ensures len { length result ≡ dict_len self }
@@ -88,7 +92,7 @@ impl<K: Eq + Hash + Drop, V: Drop> IntoIterator for Dict<K, V> {
 
     ghost into_iter_gives = { λ d rest. (rest ≡ d.entries) × (dict_len d < 2 ^ 63) × GivesInOrder (K × V) × GivesInReverse (K × V) × ShowsValuesInOrder (λ (p : K × V). p) × IsUnique K.eq d };
 
-    /// The keys and values by value, in order of insertion.
+    /// The keys and values by value, in the map's order.
     #[inline]
     fn into_iter(self) -> IntoIter<K, V> {
         prove!(self.map.iter_hashed().len() == self.map.len());
@@ -104,7 +108,7 @@ impl<'a, K: Eq + Hash, V> IntoIterator for &'a Dict<K, V> {
 
     ghost into_iter_gives = { λ d rest. (rest ≡ d.now.entries) × (dict_len d.now < 2 ^ 63) × ShowsInOrder (deref_pair {K = K} {X = V}) × ShowsInReverse (deref_pair {K = K} {X = V}) × ShowsValuesInOrder (deref_pair {K = K} {X = V}) × IsUnique K.eq d.now };
 
-    /// The keys and values in order of insertion.
+    /// The keys and values in the map's order.
     #[inline]
     fn into_iter(self) -> Iter<'a, K, V> {
         self.iter()

@@ -1,4 +1,4 @@
-//! The walks that write values. Keys and memory stay.
+//! The iterators that write values. Keys and memory stay.
 ghost use Rattle.std.specs.Borrow.{sem};
 ghost use Rattle.std.specs.HashMap.Lent.{with_values, KeepsKeys};
 ghost use Rattle.std.specs.Map.{values_of};
@@ -11,7 +11,7 @@ use starlark_small::{IterMut, ValuesMut};
 use std::hash::Hash;
 
 impl<K: Eq + Hash, V> Dict<K, V> {
-    /// The keys and values in order of insertion, to write the values. The map ends with what is left in them, and all
+    /// The keys and values in the map's order, to write the values. The map ends with what is left in them, and all
     /// else stays.
     #[inline]
     pub fn iter_mut(&mut self) -> IterMut<'_, K, V>
@@ -27,7 +27,7 @@ impl<K: Eq + Hash, V> Dict<K, V> {
         self.lend_values()
     }
 
-    /// The values in order of insertion, to write them. The map ends with what is left in them, and all else stays.
+    /// The values in the map's order, to write them. The map ends with what is left in them, and all else stays.
     #[inline]
     pub fn values_mut(&mut self) -> ValuesMut<'_, K, V>
         ensures* writes_back { sem 𝓛 (values_follow K.row V.row K.Hash self.entry result.1) }
@@ -41,7 +41,7 @@ impl<K: Eq + Hash, V> Dict<K, V> {
         ValuesMut::of(self.iter_mut())
     }
 
-    // The walk of the map inside.
+    // The iterator of the map inside.
     #[inline]
     fn lend_values(&mut self) -> IterMut<'_, K, V>
         ensures* writes_back { sem 𝓛 (values_follow K.row V.row K.Hash self.entry result.1) }
@@ -59,7 +59,7 @@ impl<'a, K: Eq + Hash, V> IntoIterator for &'a mut Dict<K, V> {
 
     ghost into_iter_gives = { λ d rest. (rest.0 ≡ d.now.entries) × (dict_len d.now < 2 ^ 63) × IsUnique K.eq d.now };
 
-    /// The keys and values in order of insertion, to write the values, as `iter_mut` gives them.
+    /// The keys and values in the map's order, to write the values, as `iter_mut` gives them.
     #[inline]
     fn into_iter(self) -> IterMut<'a, K, V>
         ensures* writes_back { sem 𝓛 (values_follow K.row V.row K.Hash self.entry result.1) }

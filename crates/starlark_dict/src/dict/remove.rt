@@ -1,7 +1,7 @@
 //! What takes entries out. None of it asks for memory.
-ghost use Rattle.std.specs.Prelude.{◌≡◌, ◌+◌, ◌-◌, is_some, if◌then◌else◌, None, remove, slice_get};
+ghost use Rattle.std.specs.Prelude.{◌≡◌, ◌+◌, ◌-◌, is_some, if◌then◌else◌, None, IfSome, remove, slice_get};
 ghost use Rattle.std.specs.Option.{option_map};
-ghost use Rattle.starlark_dict.specs.Dict.{dict_len, get_by, get_key_by, remove_entry, IsEmpty, KeepsMemory, UpdatesBy};
+ghost use Rattle.starlark_dict.specs.Dict.{dict_len, get_by, get_key_by, remove_entry, IsEmpty, KeepsMemory, Updates, UpdatesBy};
 ghost use Rattle.starlark_hash.specs.HashValue.{hash_of, key_of};
 ghost use Rattle.starlark_hash.specs.Hasher.{own_hash};
 
@@ -54,7 +54,8 @@ impl<K: Eq + Hash, V> Dict<K, V> {
         self.shift_remove_hashed_entry(Hashed::new(key))
     }
 
-    /// `shift_remove_entry` by a hash that was computed before, and is the query's own.
+    /// `shift_remove_entry` by a hash that was computed before, and is the query's own. The index of each later one
+    /// falls by one.
     #[inline]
     pub fn shift_remove_hashed_entry<Q: HashQuery<K>>(&mut self, key: Hashed<Q>) -> Option<(K, V)>
         requires { hash_of key ≡ own_hash Q.hash_input (key_of key) }
@@ -73,13 +74,16 @@ impl<K: Eq + Hash, V> Dict<K, V> {
     #[inline]
     pub fn pop(&mut self) -> Option<(K, V)>
         ensures entry { result ≡ slice_get self.old.entries (dict_len self.old - 1) }
+        ensures updates { IfSome result (λ p. Updates K.eq self.old self.new p.0 None) }
         ensures entries { self.new.entries ≡ remove self.old.entries (dict_len self.old - 1) }
         ensures memory { KeepsMemory self.old self.new }
     {
+        prove!(self.map.iter_hashed().len() == self.map.len());
         self.map.pop()
     }
 
-    /// Removes each entry. Capacity and index stay for those to come.
+    /// Removes each entry. Capacity and hash index stay for those to come.
+    #[tactic(auto, using(crate::proofs::OwnPairs::own_pairs))]
     pub fn clear(&mut self)
     where
         K: Drop,

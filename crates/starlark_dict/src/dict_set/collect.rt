@@ -15,7 +15,8 @@ impl<T: Eq + Hash + Drop> FromIterator<T> for DictSet<T> {
     ghost from_iter_gives = { λ xs s. (s.keys ≡ insert_all T.eq [] xs) × IsFromIterResult T.eq xs s };
 
     /// A set of the items, inserted in their order. Where memory is refused, nothing is made and the items are dropped;
-    /// an iterator that bounds that it has no items is not refused. The iterator must end.
+    /// an iterator that bounds that it has no items is not refused. The call requires that the iterator's type bounds
+    /// its items.
     fn from_iter<I: IntoIterator<Item = T>>(alloc: Global, iter: I) -> Result<Self, AllocError>
         requires { IsFiniteIterable I.into_iter_gives I.IntoIter.can_next I.IntoIter.remaining iter }
         ensures ran { IfOk result (λ s. (it : I.IntoIter) × (xs : List T) × I.into_iter_gives iter it × DrainsIf I.IntoIter.next_gives ⊤ it xs × (s.keys ≡ insert_all T.eq [] xs) × IsFromIterResult T.eq xs s) }

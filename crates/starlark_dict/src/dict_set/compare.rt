@@ -1,4 +1,4 @@
-//! How sets compare, what they feed to a hasher, and how they print.
+//! How sets compare, and what they feed to a hasher.
 ghost use Rattle.std.specs.Cmp.{partial_equiv_from_equiv};
 ghost use Rattle.std.specs.Cmp.Lexicographic.{pointwise};
 ghost use Rattle.std.specs.HashSet.Eq.{hash_set_eq_equiv};
@@ -7,7 +7,6 @@ ghost use Rattle.starlark_dict.specs.Compare.{ordered_feed};
 ghost use Rattle.starlark_dict.specs.DictSet.{as_dict, set_eq};
 
 use super::DictSet;
-use std::fmt;
 use std::hash::{Hash, Hasher};
 
 /// Two are equal where they have the same elements. The order does not count.
@@ -38,11 +37,5 @@ impl<T: Eq + Hash> DictSet<T> {
         ensures { state.new ≡ fold H.write state.old (ordered_feed T.hash_input (λ _. []) (as_dict self.now).entries) }
     {
         self.dict.hash_ordered(state);
-    }
-}
-
-impl<T: Eq + Hash + fmt::Debug> fmt::Debug for DictSet<T> {
-    fn fmt<W: fmt::Write>(&self, f: &mut fmt::Formatter<W>) -> fmt::Result {
-        f.debug_set().entries(self.iter()).finish()
     }
 }

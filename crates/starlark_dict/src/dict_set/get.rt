@@ -10,6 +10,7 @@ use std::hash::Hash;
 impl<T: Eq + Hash> DictSet<T> {
     /// Whether there is an element that the query stands for.
     #[inline(always)]
+    #[tactic(auto, using(crate::proofs::Elements::elements))]
     pub fn contains<Q: HashQuery<T>>(&self, element: Q) -> bool
         ensures { result ≡ contains_by (Q.stands_for element) self.now }
     {
@@ -18,6 +19,7 @@ impl<T: Eq + Hash> DictSet<T> {
 
     /// The stored element that the query stands for.
     #[inline(always)]
+    #[tactic(auto, using(crate::proofs::Elements::elements))]
     pub fn get<Q: HashQuery<T>>(&self, element: Q) -> Option<&T>
         ensures element { option_copied result ≡ get_by (Q.stands_for element) self.now }
         ensures found { is_some result ≡ contains_by (Q.stands_for element) self.now }
@@ -28,6 +30,7 @@ impl<T: Eq + Hash> DictSet<T> {
 
     /// The index of the element that the query stands for.
     #[inline(always)]
+    #[tactic(auto, using(crate::proofs::Elements::elements))]
     pub fn get_index_of<Q: HashQuery<T>>(&self, element: Q) -> Option<usize>
         ensures index { result ≡ index_of_by (Q.stands_for element) self.now }
         ensures found { is_some result ≡ contains_by (Q.stands_for element) self.now }

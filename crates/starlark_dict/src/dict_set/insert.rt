@@ -9,8 +9,9 @@ use std::hash::Hash;
 
 impl<T: Eq + Hash + Drop> DictSet<T> {
     /// Inserts an element, and returns whether it was new. An element that is there stays in its place, and this one is
-    /// dropped. A new one goes last.
+    /// dropped. A new one is appended.
     #[inline(always)]
+    #[tactic(auto, using(crate::proofs::Elements::elements))]
     pub fn insert(&mut self, element: T) -> Result<bool, NoRoom<T>>
         // On success the set has `element`, other elements stay, and the result says whether it was new.
         ensures is_new { IfOk result (λ is_new. is_new ≡ not (contains T.eq self.old element)) }

@@ -1,4 +1,4 @@
-//! The walks of a set, from both ends.
+//! The iterators of a set, from both ends.
 ghost use Rattle.std.specs.Prelude.{◌≡◌, ◌^◌, ◌<◌};
 ghost use Rattle.std.specs.Map.Iter.{deref, GivesInOrder, GivesInReverse, ShowsInOrder, ShowsInReverse};
 ghost use Rattle.starlark_dict.specs.DictSet.{set_len, IsUnique};
@@ -8,7 +8,7 @@ use starlark_small::{IntoKeys, Keys};
 use std::hash::Hash;
 
 impl<T: Eq + Hash> DictSet<T> {
-    /// The elements in order of insertion. No two are equal.
+    /// The elements in the set's order. No two are equal.
     #[inline]
     pub fn iter(&self) -> Keys<'_, T, ()>
         ensures elements { result ≡ self.now.keys }
@@ -28,7 +28,7 @@ impl<'a, T: Eq + Hash> IntoIterator for &'a DictSet<T> {
 
     ghost into_iter_gives = { λ s rest. (rest ≡ s.now.keys) × (set_len s.now < 2 ^ 63) × ShowsInOrder (deref {X = T}) × IsUnique T.eq s.now };
 
-    /// The elements in order of insertion.
+    /// The elements in the set's order.
     #[inline]
     fn into_iter(self) -> Keys<'a, T, ()> {
         self.iter()
@@ -42,7 +42,7 @@ impl<T: Eq + Hash + Drop> IntoIterator for DictSet<T> {
 
     ghost into_iter_gives = { λ s rest. (rest ≡ s.keys) × (set_len s < 2 ^ 64) × GivesInOrder T × IsUnique T.eq s × GivesInReverse T };
 
-    /// The elements by value, in order of insertion.
+    /// The elements by value, in the set's order.
     #[inline]
     fn into_iter(self) -> IntoKeys<T, ()> {
         let DictSet { dict } = self;

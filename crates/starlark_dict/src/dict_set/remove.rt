@@ -1,7 +1,7 @@
 //! What takes elements out. None of it asks for memory.
-ghost use Rattle.std.specs.Prelude.{◌≡◌, ◌+◌, ◌-◌, false, is_some, if◌then◌else◌, remove, slice_get};
+ghost use Rattle.std.specs.Prelude.{◌≡◌, ◌+◌, ◌-◌, false, is_some, if◌then◌else◌, IfSome, remove, slice_get};
 ghost use Rattle.std.specs.Option.{option_map};
-ghost use Rattle.starlark_dict.specs.DictSet.{contains_by, get_by, remove_key, set_len, IsEmpty, KeepsMemory, UpdatesBy};
+ghost use Rattle.starlark_dict.specs.DictSet.{contains_by, get_by, remove_key, set_len, IsEmpty, KeepsMemory, Updates, UpdatesBy};
 
 use super::DictSet;
 use starlark_hash::HashQuery;
@@ -26,6 +26,7 @@ impl<T: Eq + Hash> DictSet<T> {
     /// Removes the element that the query stands for, and returns the stored one. The index of each later one falls by
     /// one.
     #[inline]
+    #[tactic(auto, using(crate::proofs::Elements::elements))]
     pub fn take<Q: HashQuery<T>>(&mut self, element: Q) -> Option<T>
         ensures element { result ≡ get_by (Q.stands_for element) self.old }
         ensures found { is_some result ≡ contains_by (Q.stands_for element) self.old }
@@ -41,13 +42,15 @@ impl<T: Eq + Hash> DictSet<T> {
     #[inline]
     pub fn pop(&mut self) -> Option<T>
         ensures element { result ≡ slice_get self.old.keys (set_len self.old - 1) }
+        ensures updates { IfSome result (λ element. Updates T.eq self.old self.new element false) }
         ensures elements { self.new.keys ≡ remove self.old.keys (set_len self.old - 1) }
         ensures memory { KeepsMemory self.old self.new }
     {
         alone(self.dict.pop())
     }
 
-    /// Removes each element. Capacity and index stay for those to come.
+    /// Removes each element. Capacity and hash index stay for those to come.
+    #[tactic(auto, using(crate::proofs::Elements::elements))]
     pub fn clear(&mut self)
     where
         T: Drop,

@@ -10,6 +10,7 @@ use std::hash::Hash;
 impl<T: Eq + Hash> DictSet<T> {
     /// Sorts the elements; those that are equal in order keep theirs. Where they ascend already it asks for no memory. A
     /// refusal leaves them as they were.
+    #[tactic(auto, using(crate::proofs::Elements::elements))]
     pub fn sort(&mut self) -> Result<(), AllocError>
     where
         T: Ord,
@@ -21,7 +22,7 @@ impl<T: Eq + Hash> DictSet<T> {
         ensures err { OnErr result (IsUnchanged self.old self.new) }
         ensures succeeds { IsSorted T.cmp self.old.keys → IsOk result }
 
-        // Either way the same ones are there, and no room is lost.
+        // Either way no element comes or goes, and no room is lost.
         ensures reordered { IsReordered T.eq self.old self.new }
         ensures memory { KeepsMemory self.old self.new }
         ensures unique { IsUnique T.eq self.new }
@@ -30,6 +31,7 @@ impl<T: Eq + Hash> DictSet<T> {
     }
 
     /// Reverses the order of the elements.
+    #[tactic(auto, using(crate::proofs::Elements::elements))]
     pub fn reverse(&mut self)
         ensures elements { self.new.keys ≡ reverse self.old.keys }
         ensures reordered { IsReordered T.eq self.old self.new }

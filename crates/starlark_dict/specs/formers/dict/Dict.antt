@@ -19,9 +19,11 @@ use denote.Model.Placed.{held, view_places}
 use Rattle.std.specs.Hash.{HashWrites}
 use Rattle.std.specs.declared.cmp.PartialEq as eq
 use Rattle.std.specs.declared.hash.Hash as hash
-use Rattle.std_collections.specs.Layout.Former.{entry, entries_recoded}
+use Rattle.std.specs.HashMap.{hash_map_eq}
+use Rattle.std_collections.specs.Layout.Former.{entry, entries_recoded, on_value as on_pair}
 use Rattle.std_collections.specs.Layout.HashMap.{hash_map}
 use Rattle.std_collections.specs.formers.hash_map.HashMap as hash_map_is
+use Rattle.std_collections.specs.formers.hash_map.HashMap.{entries_eq-map}
 use Rattle.starlark_hash.specs.Entries.{Entry, entry_hash, entry_key, pair_of}
 use Rattle.starlark_hash.specs.Hasher.{own_hash}
 use Rattle.starlark_small.specs.Lookup.{AreOwnEntries}
@@ -87,3 +89,7 @@ module _ (K : RattleType) (G : eq.Ghosts K.Denot) (H : hash.Ghosts K.Denot) (R R
 
   pub the_codes_placed : Recodes R R' h → Recodes (C.the_row K R G H) (C.the_row K R' G H) ((the_former this K.Denot).map R.Denot R'.Denot h)
   the_codes_placed e d = ap (λ x. gcons x ((coded× memory_code coded_ℕ).code (memory d, room d))) (entries_recoded K R R' h e d.entries)
+
+pub the_eq_natural : (K X Y : Type 0) (h : X → Y) (G : eq.Ghosts K) (H : hash.Ghosts K) (V : eq.Ghosts Y) (m n : Dict K X)
+    → hash_map_eq G.eq V.eq ((the_former this K).map X Y h m) ((the_former this K).map X Y h n) ≡ hash_map_eq G.eq (λ x y. V.eq (h x) (h y)) m n
+the_eq_natural K X Y h G H V m n = entries_eq-map G.eq (λ p q. V.eq p.1 q.1) (on_pair h) m.entries n.entries (λ p. refl)

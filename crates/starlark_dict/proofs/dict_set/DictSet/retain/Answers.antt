@@ -1,17 +1,17 @@
-use Rattle.starlark_hash.proofs.Common.{CalledAt, arith, of_calls, refl, rules, subst, sym, ◌∙◌, ◌∷◌, [], ◌≡◌}
-use denote.Param.Always.{always_mut}
+use Rattle.starlark_hash.proofs.Common.{CalledAt, TakesAt, arith, of_calls, refl, rules, subst, sym, ◌∙◌, ◌≡◌}
 use Rattle.std.specs.Map.Calls.{RetainsPairs}
 use Rattle.std_collections.proofs.SetKeys.{contains_seen}
-use Rattle.std_collections.proofs.SetRetain.{always_callable, retains_keys}
+use Rattle.std_collections.proofs.SetRetain.{retains_keys}
 use Rattle.starlark_dict.proofs.Elements.{keeps_memory, length-keys}
-use Rattle.starlark_dict.proofs.KeptElements.{callable_seen, keys_filtered, retains_seen}
+use Rattle.starlark_dict.proofs.KeptElements.{callable_on_pairs, callable_seen, keys_filtered, retains_seen}
+use Rattle.starlark_dict.specs.Retain.{CallableOnEach}
 use Rattle.starlark_dict.proofs.dict_set.DictSet.retain.Goals as goal
 
 pub retain-requires : goal.retain-requires
 retain-requires g c =
     callable_seen _ (λ f k v b w f'. CalledAt g.F.FnMut f k b f') (λ s. s.0.now) (λ f k v b w f' t. subst (λ x. CalledAt g.F.FnMut f.0.now x b f'.0.now) t.shows.0 (search (rules, of_calls, t.called)))
-    _ (λ s k v. always_mut g.F.FnMut s) (λ f k v always p q at_key at_value x is. (always.at ((x, tt) ∷ [])).0)
-    _ c.self.inside.dict.entries (always_callable g.F.FnMut c.args.keep c.self.inside.dict.entries c.requires)
+    _ (λ f k v. TakesAt g.F.FnMut f k) (λ f k v takes p q at_key at_value x is. takes x (is ∙ at_key))
+    _ c.self.inside.dict.entries (callable_on_pairs g.F.FnMut c.args.keep c.self.inside.dict.entries (subst (λ s. CallableOnEach g.F.FnMut c.args.keep s.keys) (sym c.self.view_is) c.requires))
 
 pub returns : goal.returns
 returns g c =
