@@ -2,4 +2,3 @@ pub mod Walks
 pub mod Steps
 mod LookedUp
 mod OrderedLent
-mod Copied

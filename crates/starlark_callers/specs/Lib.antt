@@ -1,4 +1,3 @@
 pub mod Lend
 pub mod Pages
 pub mod Words
-pub mod Values

@@ -1,9 +1,8 @@
 //! Callers that make maps and sets of items, take items in, copy, or join.
 ghost use Rattle.std.specs.Hash as fed;
 ghost use Rattle.std.specs.Map.{update_all};
-ghost use Rattle.std.specs.Prelude.{[], ◌&&◌, ◌+◌, ◌||◌, ◌↔◌, ◌∷◌, ◌≡◌, ◌≤◌, All, Contains, IfOk, IfSome, IsSome, None, OnOk, Some, false, length, map, nat_eq, not, true, ℕ};
+ghost use Rattle.std.specs.Prelude.{[], ◌&&◌, ◌+◌, ◌||◌, ◌∷◌, ◌≡◌, ◌≤◌, All, Contains, IfOk, IfSome, IsSome, None, OnOk, Some, false, length, map, nat_eq, not, true, ℕ};
 ghost use Rattle.std.specs.Set.{is_member};
-ghost use Rattle.starlark_hash.specs.Entries.{pair_of};
 ghost use Rattle.starlark_sets.specs.Difference.{difference_rest};
 ghost use Rattle.starlark_sets.specs.Union.{union_rest};
 ghost use Rattle.starlark_small.specs.Lookup.{AreOwn, AreOwnEntries, contains, get, keys};
@@ -63,30 +62,12 @@ pub fn of_entries<K: Eq + Hash + Drop, V: Drop>(
     SmallMap::from_iter_hashed(alloc, entries)
 }
 
-/// A map of each number to itself: its keys are the numbers, and each has itself.
-pub fn to_itself(alloc: Global, numbers: &[u32]) -> Result<SmallMap<u32, u32>, AllocError>
-    ensures keys { IfOk result (λ m. (key : ℕ) → IsSome (get nat_eq fed.u32 m key) ↔ Contains numbers.now key) }
-    ensures values { IfOk result (λ m. (key : ℕ) → IfSome (get nat_eq fed.u32 m key) (λ value. value ≡ key)) }
-{
-    SmallMap::from_iter(alloc, numbers.iter().map(|number| (*number, *number)))
-}
-
 /// A map of pairs that are copied: what is found was among them, and each key is found.
 pub fn of_copied(alloc: Global, pairs: &[(u32, u64)]) -> Result<SmallMap<u32, u64>, AllocError>
     ensures found { IfOk result (λ m. (key : ℕ) → IfSome (get nat_eq fed.u32 m key) (λ value. Contains pairs.now (key, value))) }
     ensures keys { IfOk result (λ m. All (λ pair. IsSome (get nat_eq fed.u32 m pair.0)) pairs.now) }
 {
     SmallMap::from_iter(alloc, pairs.iter().copied())
-}
-
-/// Puts all of another map in: each key has the last value that its pairs have for it.
-pub fn add_all(
-    entries: &mut SmallMap<u32, u64>,
-    others: SmallMap<u32, u64>,
-) -> Result<(), AllocError>
-    ensures { OnOk result ((key : ℕ) → get nat_eq fed.u32 entries.new key ≡ update_all nat_eq (get nat_eq fed.u32 entries.old) (map pair_of others.entries) key) }
-{
-    entries.extend(others)
 }
 
 /// A copy, which has equal keys.

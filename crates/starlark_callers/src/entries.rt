@@ -1,10 +1,7 @@
 //! Callers of entries.
 ghost use Rattle.std.specs.Hash as fed;
 ghost use Rattle.std.specs.Option.{unwrap_or};
-ghost use Rattle.std.specs.Prelude.{[], ◌+◌, ◌-◌, ◌<◌, ◌^◌, ◌∷◌, ◌≡◌, IfOk, IfSome, IsNone, IsSome, None, OnOk, Some, false, min, nat_eq, true, ℕ};
-ghost use Rattle.std.specs.String.{string_bytes, string_eq};
-ghost use Rattle.std.specs.declared.alloc.Global.{Global};
-ghost use Rattle.std.specs.declared.string.String.{String};
+ghost use Rattle.std.specs.Prelude.{[], ◌+◌, ◌-◌, ◌<◌, ◌^◌, ◌∷◌, ◌≡◌, IfOk, IfSome, IsNone, IsSome, None, OnOk, Some, false, min, nat_eq, ℕ};
 ghost use Rattle.starlark_small.specs.Lookup.{AreOwn, contains, get, keys};
 
 use starlark_hash::{Hashed, NoRoom};
@@ -117,33 +114,6 @@ pub fn add(
 {
     *map.entry(word).or_insert(0)? += n;
     Ok(())
-}
-
-/// Counts a string at its entry.
-pub fn count_named(
-    map: &mut SmallMap<String, u64>,
-    word: String,
-) -> Result<(), NoRoom<(Hashed<String>, u64)>>
-    ensures here { OnOk result (get string_eq (λ s. fed.str (string_bytes s)) map.new word ≡ Some (min (unwrap_or (get string_eq (λ s. fed.str (string_bytes s)) map.old word) 0 + 1) (2 ^ 64 - 1))) }
-    ensures others { OnOk result ((other : String Global) → string_eq word other ≡ false → get string_eq (λ s. fed.str (string_bytes s)) map.new other ≡ get string_eq (λ s. fed.str (string_bytes s)) map.old other) }
-{
-    let count = map.entry(word).or_insert(0)?;
-    *count = count.saturating_add(1);
-    Ok(())
-}
-
-/// Writes a value by the entry's variants, and answers by a pattern whether there was room.
-pub fn put_by_pattern(map: &mut SmallMap<u32, u64>, key: u32, value: u64) -> bool
-    ensures here { result ≡ true → get nat_eq fed.u32 map.new key ≡ Some value }
-    ensures lacking { result ≡ false → get nat_eq fed.u32 map.old key ≡ None }
-{
-    match map.entry(key) {
-        Entry::Occupied(entry) => {
-            *entry.into_mut() = value;
-            true
-        }
-        Entry::Vacant(entry) => matches!(entry.insert(value), Ok(_)),
-    }
 }
 
 /// Enters a number into a map whose keys are known: it goes last.

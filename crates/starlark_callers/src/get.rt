@@ -1,7 +1,7 @@
 //! Callers that look up, and write what they find.
 ghost use Rattle.std.specs.Hash as fed;
 ghost use Rattle.std.specs.Option.{option_map, unwrap_or};
-ghost use Rattle.std.specs.Prelude.{◌≡◌, ◌<◌, ◌≤◌, All, Contains, IfSome, IsTrue, OnErr, Some, is_some, length, map, nat_eq, sum, true};
+ghost use Rattle.std.specs.Prelude.{◌≡◌, ◌<◌, ◌≤◌, All, Contains, IfSome, OnErr, Some, is_some, length, map, nat_eq, sum, true};
 ghost use Rattle.std.specs.Set.{is_member};
 ghost use Rattle.std.specs.Str.{bytes_eq};
 ghost use Rattle.std.specs.String.{string_bytes, string_eq};
@@ -21,17 +21,6 @@ pub fn lookup_or<K: Eq + Hash>(map: &SmallMap<K, u64>, key: &K, default: u64) ->
     ensures { result ≡ unwrap_or (get K.eq K.hash_input map.now key.now) default }
 {
     match map.get(key) {
-        Some(value) => *value,
-        None => default,
-    }
-}
-
-/// The value under a key whose hash is computed before, or another.
-pub fn lookup_ready_or<K: Eq + Hash + Drop>(map: &SmallMap<K, u64>, key: K, default: u64) -> u64
-    ensures { result ≡ unwrap_or (get K.eq K.hash_input map.now key) default }
-{
-    let hashed = Hashed::new(key);
-    match map.get_hashed(hashed.as_ref()) {
         Some(value) => *value,
         None => default,
     }
@@ -76,22 +65,6 @@ pub fn named_in_both(
     )
 }
 
-/// Whether a number is there: it is one of the keys, under whatever hash.
-pub fn is_key(entries: &SmallMap<u32, u64>, key: u32) -> bool
-    ensures listed { IsTrue result → Contains (keys entries.now) key }
-    ensures member { IsTrue result → is_member nat_eq (keys entries.now) key ≡ true }
-{
-    entries.contains_key(&key)
-}
-
-/// The value at a number, which is one of the keys where there is a value.
-pub fn value_of_key(entries: &SmallMap<u32, u64>, key: u32) -> Option<u64>
-    ensures listed { IfSome result (λ _. Contains (keys entries.now) key) }
-    ensures member { IfSome result (λ _. is_member nat_eq (keys entries.now) key ≡ true) }
-{
-    entries.get(&key).copied()
-}
-
 /// The index of a number, which is one of the keys where there is an index.
 pub fn index_of_key(entries: &SmallMap<u32, u64>, key: u32) -> Option<usize>
     ensures within { IfSome result (λ index. index < length entries.now.entries) }
@@ -109,17 +82,6 @@ pub fn overwrite<K: Eq + Hash>(entries: &mut SmallMap<K, u64>, key: &K, value: u
 {
     if let Some(there) = entries.get_mut(key) {
         *there = value;
-    }
-}
-
-/// Writes 0 at a text. Strings under their own hashes stay so.
-pub fn clear_named(map: &mut SmallMap<String, u32>, name: &str)
-    requires { AreOwn (λ s. fed.str (string_bytes s)) map.old }
-    ensures own { AreOwn (λ s. fed.str (string_bytes s)) map.new }
-    ensures keys { keys map.new ≡ keys map.old }
-{
-    if let Some(value) = map.get_mut(name) {
-        *value = 0;
     }
 }
 

@@ -1,7 +1,7 @@
 //! A small map in a field.
 ghost use Rattle.std.specs.Hash as fed;
 ghost use Rattle.std.specs.Option.{unwrap_or};
-ghost use Rattle.std.specs.Prelude.{◌≡◌, ◌≢◌, ℕ, ◌+◌, ◌<◌, ◌^◌, nat_eq, true, Some, None, OnOk, OnErr, false};
+ghost use Rattle.std.specs.Prelude.{◌≡◌, ◌≢◌, ℕ, ◌+◌, ◌<◌, ◌^◌, nat_eq, Some, OnOk, OnErr};
 ghost use Rattle.starlark_small.specs.Lookup.{get};
 
 use starlark_small::SmallMap;
@@ -30,22 +30,5 @@ impl Stock {
     {
         *self.counts.entry(item).or_insert(0)? += n;
         Ok(())
-    }
-
-    /// Sets the count of an item, and answers whether there was room.
-    pub fn set(&mut self, item: u32, n: u32) -> bool
-        ensures here { result ≡ true → get nat_eq fed.u32 self.new.counts item ≡ Some n }
-        ensures lacking { result ≡ false → get nat_eq fed.u32 self.old.counts item ≡ None }
-    {
-        self.counts.insert(item, n).is_ok()
-    }
-
-    /// Takes an item off the list, and answers how many there were.
-    pub fn retire(&mut self, item: u32) -> u32
-        ensures was { result ≡ unwrap_or (get nat_eq fed.u32 self.old.counts item) 0 }
-        ensures here { get nat_eq fed.u32 self.new.counts item ≡ None }
-        ensures others { (other : ℕ) → other ≢ item → get nat_eq fed.u32 self.new.counts other ≡ get nat_eq fed.u32 self.old.counts other }
-    {
-        self.counts.shift_remove(&item).unwrap_or(0)
     }
 }

@@ -1,17 +1,15 @@
 //! Callers that insert into maps, or write what is there.
 ghost use Rattle.std.specs.Hash as fed;
-ghost use Rattle.std.specs.Prelude.{◌+◌, ◌<◌, ◌≡◌, All, IfOk, List, None, OnErr, OnOk, Some, false, if◌then◌else◌, is_some, length, map, nat_eq, true, ℕ};
+ghost use Rattle.std.specs.Prelude.{◌+◌, ◌<◌, ◌≡◌, All, IfOk, List, None, OnErr, OnOk, Some, false, if◌then◌else◌, length, map, nat_eq, ℕ};
 ghost use Rattle.std.specs.Str.{bytes_eq};
-ghost use Rattle.std.specs.String.{string_bytes, string_eq};
-ghost use Rattle.std.specs.declared.alloc.Global.{Global};
-ghost use Rattle.std.specs.declared.string.String.{String};
+ghost use Rattle.std.specs.String.{string_bytes};
 ghost use Rattle.starlark_hash.specs.Entries.{entry_value};
 ghost use Rattle.starlark_small.specs.Lookup.{AreOwn, contains, get, get_text};
 
 use starlark_hash::{Hashed, NoRoom};
 use starlark_sets::OrderedMap;
 use starlark_small::SmallMap;
-use std::alloc::{AllocError, Global};
+use std::alloc::Global;
 use std::hash::Hash;
 
 /// Puts a value at a key.
@@ -117,20 +115,6 @@ pub fn record_unseen<K: Eq + Hash, V>(
     map.push_own(key, value)
 }
 
-/// Puts a value at the string of a text. Strings with other bytes keep what they had.
-pub fn record_named(
-    alloc: Global,
-    map: &mut SmallMap<String, u64>,
-    name: &str,
-    value: u64,
-) -> Result<(), AllocError>
-    ensures here { OnOk result ((s : String Global) → string_bytes s ≡ name.now → get string_eq (λ s. fed.str (string_bytes s)) map.new s ≡ Some value) }
-    ensures others { OnOk result ((s : String Global) → bytes_eq name.now (string_bytes s) ≡ false → get string_eq (λ s. fed.str (string_bytes s)) map.new s ≡ get string_eq (λ s. fed.str (string_bytes s)) map.old s) }
-{
-    map.insert(String::from_str(alloc, name)?, value)?;
-    Ok(())
-}
-
 /// Puts a value at a string: its text has it, and every other text has what it had.
 #[tactic(auto, using(starlark_small::proofs::CallerKept::kept))]
 pub fn record_string(
@@ -158,20 +142,6 @@ pub fn number(
     let next = numbers.len();
     numbers.insert(name, next)?;
     Ok(())
-}
-
-/// Writes the value at a text, where there is one, and answers whether there is.
-pub fn set_named(map: &mut SmallMap<String, u64>, name: &str, value: u64) -> bool
-    ensures known { (s : String Global) → string_bytes s ≡ name.now → result ≡ is_some (get string_eq (λ s. fed.str (string_bytes s)) map.old s) }
-    ensures here { result ≡ true → (s : String Global) → string_bytes s ≡ name.now → get string_eq (λ s. fed.str (string_bytes s)) map.new s ≡ Some value }
-{
-    match map.get_mut(name) {
-        Some(there) => {
-            *there = value;
-            true
-        }
-        None => false,
-    }
 }
 
 /// A map of known numbers, one put twice and another taken out.

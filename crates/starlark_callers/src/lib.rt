@@ -1,14 +1,9 @@
 //! What callers of maps and sets say of their own calls: a family of calls a file, with no proof of theirs, but for those
-//! of `lent` and of the copy in `dict_value`.
+//! of `lent`.
 #![tactic(auto)]
 
 pub mod collect;
 pub mod compare;
-pub mod dict;
-pub mod dict_order;
-pub mod dict_set;
-pub mod dict_value;
-pub mod dict_walk;
 pub mod entries;
 pub mod get;
 pub mod held;

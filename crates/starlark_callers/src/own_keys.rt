@@ -1,5 +1,5 @@
 //! Small maps and sets of keys of the caller's own, whose equality and hash are derived.
-ghost use Rattle.std.specs.Prelude.{◌≡◌, false, true, not, Some, None, IfOk, OnOk};
+ghost use Rattle.std.specs.Prelude.{◌≡◌, false, true, not, Some, IfOk, OnOk};
 ghost use Rattle.starlark_small.specs.Lookup.{contains, get};
 ghost use Rattle.starlark_callers.specs.Pages.{page_eq, page_feeds};
 ghost use Rattle.starlark_callers.specs.declared.own_keys.Page.{Page};
@@ -36,14 +36,6 @@ pub fn visited(visits: &SmallMap<Page, u64>, page: &Page) -> Option<u64>
         Some(time) => Some(*time),
         None => None,
     }
-}
-
-/// Forgets a page.
-pub fn forget(visits: &mut SmallMap<Page, u64>, page: &Page)
-    ensures here { get page_eq page_feeds visits.new page.now ≡ None }
-    ensures others { (other : Page) → page_eq page.now other ≡ false → get page_eq page_feeds visits.new other ≡ get page_eq page_feeds visits.old other }
-{
-    visits.shift_remove(page);
 }
 
 /// Marks a page, and answers whether it was not marked.

@@ -1,12 +1,12 @@
 //! Callers that take entries out of maps.
 ghost use Rattle.std.specs.Hash as fed;
 ghost use Rattle.std.specs.Option.{option_map};
-ghost use Rattle.std.specs.Prelude.{◌%◌, ◌+◌, ◌-◌, ◌≡◌, ◌≤◌, IfSome, None, Some, false, filter, if◌then◌else◌, is_some, length, nat_eq, nat_lt, not, remove, slice_get, true, ℕ};
+ghost use Rattle.std.specs.Prelude.{◌+◌, ◌-◌, ◌≡◌, ◌≤◌, IfSome, None, Some, false, filter, if◌then◌else◌, is_some, length, nat_lt, remove, slice_get, true, ℕ};
 ghost use Rattle.std.specs.Str.{bytes_eq};
 ghost use Rattle.std.specs.String.{string_bytes, string_eq};
 ghost use Rattle.std.specs.declared.alloc.Global.{Global};
 ghost use Rattle.std.specs.declared.string.String.{String};
-ghost use Rattle.starlark_hash.specs.Entries.{entry_key, entry_value, pair_of};
+ghost use Rattle.starlark_hash.specs.Entries.{entry_value, pair_of};
 ghost use Rattle.starlark_small.specs.Lookup.{AreOwn, contains, get};
 
 use starlark_sets::OrderedMap;
@@ -77,27 +77,15 @@ pub fn empty<K: Eq + Hash + Drop, V: Drop>(map: &mut SmallMap<K, V>, key: &K) ->
     map.contains_key(key)
 }
 
-/// Keeps the entries whose values are above a bound.
-pub fn keep_above<K: Eq + Drop>(map: &mut SmallMap<K, u64>, least: u64)
-    ensures { map.new.entries ≡ filter (λ e. nat_lt least (entry_value e)) map.old.entries }
+/// Keeps the entries whose values are above a bound: no more than there were, none that is new, and each that is found was
+/// found with this value.
+pub fn keep_above<K: Eq + Hash + Drop>(map: &mut SmallMap<K, u64>, least: u64)
+    ensures kept { map.new.entries ≡ filter (λ e. nat_lt least (entry_value e)) map.old.entries }
+    ensures fewer { length map.new.entries ≤ length map.old.entries }
+    ensures no_new { (key : K) → contains K.eq K.hash_input map.new key ≡ true → contains K.eq K.hash_input map.old key ≡ true }
+    ensures found { (key : K) (value : ℕ) → get K.eq K.hash_input map.new key ≡ Some value → get K.eq K.hash_input map.old key ≡ Some value }
 {
     map.retain(|_key, value| *value > least);
-}
-
-/// Keeps the even keys: no more than there were, and none that is new.
-pub fn keep_even(map: &mut SmallMap<u32, u64>)
-    ensures fewer { length map.new.entries ≤ length map.old.entries }
-    ensures no_new { (key : ℕ) → contains nat_eq fed.u32 map.new key ≡ true → contains nat_eq fed.u32 map.old key ≡ true }
-    ensures kept { map.new.entries ≡ filter (λ e. nat_eq (entry_key e % 2) 0) map.old.entries }
-{
-    map.retain(|key, _value| *key % 2 == 0);
-}
-
-/// Takes out the string of a text by a closure.
-pub fn drop_named(map: &mut SmallMap<String, u64>, name: &str)
-    ensures { map.new.entries ≡ filter (λ e. not (bytes_eq (string_bytes (entry_key e)) name.now)) map.old.entries }
-{
-    map.retain(|k, _value| k.as_str() != name);
 }
 
 /// Takes a key out of an ordered map, and answers its value.

@@ -2,9 +2,13 @@
 ghost use Rattle.std.specs.Fn.{CalledAt};
 ghost use Rattle.std.specs.Hash as fed;
 ghost use Rattle.std.specs.Option.{option_map};
-ghost use Rattle.std.specs.Prelude.{◌+◌, ◌-◌, ◌<◌, ◌≡◌, ◌≤◌, Bool, IfOk, IfSome, OnErr, OnOk, false, filter, if◌then◌else◌, is_some, length, nat_eq, not, slice_get, true, ℕ};
-ghost use Rattle.std.specs.String.{string_bytes};
-ghost use Rattle.starlark_hash.specs.Entries.{entry_key};
+ghost use Rattle.std.specs.Prelude.{◌+◌, ◌-◌, ◌<◌, ◌≡◌, ◌≤◌, Bool, IfOk, IfSome, OnErr, OnOk, Some, false, filter, if◌then◌else◌, is_some, length, nat_eq, not, slice_get, true, ℕ};
+ghost use Rattle.std.specs.Str.{bytes_eq};
+ghost use Rattle.std.specs.String.{string_bytes, string_eq};
+ghost use Rattle.std.specs.declared.alloc.Global.{Global};
+ghost use Rattle.std.specs.declared.string.String.{String};
+ghost use Rattle.starlark_hash.specs.Entries.{entry_key, position_of};
+ghost use Rattle.starlark_hash.specs.Hasher.{own_hash};
 ghost use Rattle.starlark_hash.specs.Retain.{TakesInTurn};
 ghost use Rattle.starlark_sets.specs.Retain.{CalledAtElement, TakesElement};
 ghost use Rattle.starlark_small.specs.Lookup.{AreOwn, contains, contains_text};
@@ -54,6 +58,28 @@ pub fn keep_text(set: &mut SmallSet<String>, text: &str) -> Result<(), AllocErro
 {
     set.get_or_insert_owned(text)?;
     Ok(())
+}
+
+/// The number of a text, which is its index: the one that it has, or else the next one, which it has from now on.
+pub fn number_of_text(set: &mut SmallSet<String>, text: &str) -> Result<usize, AllocError>
+    ensures found { IfOk result (λ number. position_of (own_hash fed.str text.now) (λ s. bytes_eq text.now (string_bytes s)) set.new.entries ≡ Some number) }
+    ensures text { IfOk result (λ number. IfSome (slice_get set.new.entries number) (λ e. bytes_eq text.now (string_bytes (entry_key e)) ≡ true)) }
+    ensures next { IfOk result (λ number. contains_text set.old text.now ≡ false → number ≡ length set.old.entries) }
+    ensures known { contains_text set.old text.now ≡ true → OnOk result (set.new ≡ set.old) }
+    ensures here { OnOk result (contains_text set.new text.now ≡ true) }
+    ensures others { OnOk result ((other : String Global) → bytes_eq text.now (string_bytes other) ≡ false → contains string_eq (λ s. fed.str (string_bytes s)) set.new other ≡ contains string_eq (λ s. fed.str (string_bytes s)) set.old other) }
+    ensures unchanged { OnErr result (set.new.entries ≡ set.old.entries) }
+{
+    set.index_or_insert_owned(text)
+}
+
+/// The number of a text, asked for twice: it is the same.
+pub fn number_twice(set: &mut SmallSet<String>, text: &str) -> Result<(usize, usize), AllocError>
+    ensures { IfOk result (λ numbers. numbers.0 ≡ numbers.1) }
+{
+    let number = set.index_or_insert_owned(text)?;
+    let again = set.index_or_insert_owned(text)?;
+    Ok((number, again))
 }
 
 /// Puts a number in where it is lacking, which is not refused where there is room.

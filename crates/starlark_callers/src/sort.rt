@@ -1,25 +1,22 @@
 //! Callers that sort or turn round, and of what ascends.
 ghost use Rattle.std.specs.Hash as fed;
 ghost use Rattle.std.specs.Option.{unwrap_or};
-ghost use Rattle.std.specs.Ordering.{is_gt, nat_cmp};
-ghost use Rattle.std.specs.Prelude.{◌≡◌, ◌≤◌, All, IfErr, IfOk, IfSome, IsSorted, OnOk, Some, false, is_some, length, map, nat_eq, nat_lt, reverse, slice_get, ℕ};
-ghost use Rattle.std.specs.String.{string_bytes, string_cmp, string_eq};
-ghost use Rattle.std.specs.declared.alloc.Global.{Global};
-ghost use Rattle.std.specs.declared.string.String.{String};
+ghost use Rattle.std.specs.Ordering.{nat_cmp};
+ghost use Rattle.std.specs.Prelude.{◌≡◌, ◌≤◌, IfErr, IfOk, IfSome, IsSorted, OnOk, Some, is_some, length, map, nat_eq, nat_lt, reverse, slice_get, ℕ};
 ghost use Rattle.starlark_small.specs.Lookup.{contains, get, keys};
 ghost use Rattle.starlark_small.specs.Map.{own_match};
 
 use starlark_map::sorted_map::SortedMap;
-use starlark_map::sorted_set::SortedSet;
 use starlark_sets::{OrderedMap, OrderedSet};
 use starlark_small::SmallMap;
 use std::alloc::AllocError;
 use std::hash::Hash;
 
-/// Sorts the keys, which ascend then; each key has what it had.
+/// Sorts the keys, of which there are as many and which ascend then; each key has what it had.
 pub fn sorted<K: Ord + Hash, V>(map: &mut SmallMap<K, V>) -> Result<(), AllocError>
     ensures ascend { OnOk result (IsSorted K.cmp (keys map.new)) }
     ensures same { (key : K) → get K.eq K.hash_input map.new key ≡ get K.eq K.hash_input map.old key }
+    ensures count { length map.new.entries ≡ length map.old.entries }
 {
     map.sort_keys()
 }
@@ -31,17 +28,6 @@ pub fn turned<K: Eq + Hash, V>(map: &mut SmallMap<K, V>)
     ensures turned { map.new.entries ≡ reverse map.old.entries }
 {
     map.reverse();
-}
-
-/// Sorts names, of which there are as many and which ascend then, and looks for one.
-pub fn sorted_named(map: &mut SmallMap<String, u64>, name: &String) -> Result<bool, AllocError>
-    ensures count { length map.new.entries ≡ length map.old.entries }
-    ensures ascend { OnOk result (IsSorted string_cmp (keys map.new)) }
-    ensures same { (other : String Global) → get string_eq (λ s. fed.str (string_bytes s)) map.new other ≡ get string_eq (λ s. fed.str (string_bytes s)) map.old other }
-    ensures looked { IfOk result (λ is. is ≡ contains string_eq (λ s. fed.str (string_bytes s)) map.old name.now) }
-{
-    map.sort_keys()?;
-    Ok(map.contains_key(name))
 }
 
 /// Sorts an ordered set, which finds what it found, and looks for an element.
@@ -74,13 +60,6 @@ pub fn look_sorted(map: OrderedMap<u32, u64>, key: u32) -> Result<Option<u64>, O
 {
     let sorted = SortedMap::from_ordered_map(map)?;
     Ok(sorted.get(&key).copied())
-}
-
-/// The first element, which is greater than none.
-pub fn least<T: Ord + Hash>(set: &SortedSet<T>) -> Option<&T>
-    ensures { IfSome result (λ least. All (λ n. is_gt (T.cmp least.now n) ≡ false) (keys set.now)) }
-{
-    set.get_index(0)
 }
 
 /// The first two keys.

@@ -1,7 +1,6 @@
 //! Callers of sorted maps and sets: what was made ascends, with no walk that says so.
-ghost use Rattle.std.specs.Hash as fed;
-ghost use Rattle.std.specs.Ordering.{is_gt, nat_cmp};
-ghost use Rattle.std.specs.Prelude.{◌≡◌, All, IfOk, IfSome, Some, false, is_some, length, nat_eq, nat_lt, ℕ};
+ghost use Rattle.std.specs.Ordering.{is_gt};
+ghost use Rattle.std.specs.Prelude.{◌≡◌, All, IfOk, IfSome, Some, false, is_some, length, nat_lt};
 ghost use Rattle.starlark_hash.specs.Clone.{IsEqualClone};
 ghost use Rattle.starlark_map.specs.Sorted.{AscendsAlong};
 ghost use Rattle.starlark_small.specs.Lookup.{AreOwn, contains, get, keys};
@@ -9,7 +8,7 @@ ghost use Rattle.starlark_small.specs.Lookup.{AreOwn, contains, get, keys};
 use starlark_map::sorted_map::SortedMap;
 use starlark_map::sorted_set::SortedSet;
 use starlark_map::sorted_vec::SortedVec;
-use starlark_sets::{OrderedMap, SmallSet};
+use starlark_sets::SmallSet;
 use starlark_small::SmallMap;
 use std::alloc::{AllocError, Global};
 use std::hash::Hash;
@@ -23,17 +22,6 @@ pub fn sorted_of<K: Ord + Hash, V>(map: SmallMap<K, V>) -> Result<SortedMap<K, V
     match SortedMap::from_small_map(map) {
         Ok(sorted) => Ok(sorted),
         Err(source) => Err(source),
-    }
-}
-
-/// Sorts an ordered map of numbers, whose keys ascend then.
-pub fn sorted_numbers(map: OrderedMap<u32, u64>) -> Result<SortedMap<u32, u64>, AllocError>
-    ensures along { IfOk result (λ m. AscendsAlong nat_cmp (keys m)) }
-    ensures same { IfOk result (λ m. (key : ℕ) → get nat_eq fed.u32 m key ≡ get nat_eq fed.u32 map key) }
-{
-    match SortedMap::from_ordered_map(map) {
-        Ok(sorted) => Ok(sorted),
-        Err(_) => Err(AllocError),
     }
 }
 
@@ -82,18 +70,6 @@ pub fn least<T: Ord + Hash>(set: &SortedSet<T>) -> Option<&T>
     ensures least { IfSome result (λ first. All (λ other. is_gt (T.cmp first.now other) ≡ false) (keys set.now)) }
 {
     set.get_index(0)
-}
-
-/// Writes a value of an ordered map where there is one. Keys under their own hashes stay so, and the value that is there
-/// changes nothing.
-pub fn overwrite_in_order<K: Eq + Hash>(map: &mut OrderedMap<K, u64>, key: &K, value: u64)
-    ensures keys { keys map.new ≡ keys map.old }
-    ensures own { AreOwn K.hash_input map.old → AreOwn K.hash_input map.new }
-    ensures same { get K.eq K.hash_input map.old key.now ≡ Some value → map.new.entries ≡ map.old.entries }
-{
-    if let Some(there) = map.get_mut(key) {
-        *there = value;
-    }
 }
 
 /// Writes a value of a sorted map where there is one. Keys under their own hashes stay so, and the value that is there

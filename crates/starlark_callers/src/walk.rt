@@ -1,7 +1,6 @@
 //! Callers that walk.
 ghost use Rattle.std.specs.Hash as fed;
-ghost use Rattle.std.specs.List.{range_with_len};
-ghost use Rattle.std.specs.Prelude.{[], ◌+◌, ◌<◌, ◌^◌, ◌↔◌, ◌≡◌, ◌≤◌, All, AllPairs, Contains, IfOk, IfSome, IsNone, IsTrue, None, OnOk, Some, count_by, false, filter, length, map, nat_eq, not, pos, sum, ℕ};
+ghost use Rattle.std.specs.Prelude.{[], ◌+◌, ◌<◌, ◌^◌, ◌↔◌, ◌≡◌, ◌≤◌, All, AllPairs, Contains, IfOk, IfSome, IsNone, IsTrue, None, OnOk, count_by, false, length, map, nat_eq, pos, sum};
 ghost use Rattle.std.specs.String.{string_bytes, string_eq};
 ghost use Rattle.std.specs.declared.alloc.Global.{Global};
 ghost use Rattle.std.specs.declared.string.String.{String};
@@ -34,13 +33,6 @@ pub fn owned_keys<K: Eq + Drop, V: Drop>(
     entries.into_keys().collect(alloc)
 }
 
-/// How many entries there are, as a signed number.
-pub fn signed_len<K: Eq, V>(entries: &SmallMap<K, V>) -> i64
-    ensures { result ≡ pos (length entries.now.entries) }
-{
-    entries.len() as i64
-}
-
 /// How many keys are shown, of which no two are equal.
 pub fn distinct_keys<K: Eq + Hash, V>(entries: &SmallMap<K, V>) -> i64
     requires { AreOwn K.hash_input entries.now }
@@ -48,24 +40,6 @@ pub fn distinct_keys<K: Eq + Hash, V>(entries: &SmallMap<K, V>) -> i64
     ensures distinct { AllPairs (λ d e. K.eq (entry_key d) (entry_key e) ≡ false) entries.now.entries }
 {
     entries.keys().len() as i64
-}
-
-/// How many pairs of distinct numbers and their values are shown.
-pub fn distinct_numbers(entries: &SmallMap<u32, u64>) -> i64
-    requires { AreOwn fed.u32 entries.now }
-    ensures count { result ≡ pos (length entries.now.entries) }
-    ensures distinct { AllPairs (λ d e. nat_eq (entry_key d) (entry_key e) ≡ false) entries.now.entries }
-{
-    entries.iter().len() as i64
-}
-
-/// How many values of distinct strings are shown.
-pub fn distinct_names(entries: &SmallMap<String, u32>) -> i64
-    requires { AreOwn (λ s. fed.str (string_bytes s)) entries.now }
-    ensures count { result ≡ pos (length entries.now.entries) }
-    ensures distinct { AllPairs (λ d e. string_eq (entry_key d) (entry_key e) ≡ false) entries.now.entries }
-{
-    entries.values().len() as i64
 }
 
 /// The sum of the values, by the pairs.
@@ -90,14 +64,6 @@ pub fn below_if_all<K: Eq + Hash>(entries: &SmallMap<K, u64>) -> bool
     ensures found { IsTrue result → (key : K) → IfSome (get K.eq K.hash_input entries.now key) (λ value. value < 100) }
 {
     entries.values().all(|value| *value < 100)
-}
-
-/// Whether some number has this value.
-pub fn any_at(entries: &SmallMap<u32, u64>, sought: u64) -> bool
-    requires { AreOwn fed.u32 entries.now }
-    ensures { IsTrue result ↔ ((key : ℕ) × (get nat_eq fed.u32 entries.now key ≡ Some sought)) }
-{
-    entries.values().any(|value| *value == sought)
 }
 
 /// The greatest value, which none that is found exceeds.
@@ -160,11 +126,4 @@ pub fn shared(set: &SmallSet<u32>, other: &SmallSet<u32>) -> usize
     ensures within { result ≤ length set.now.entries }
 {
     set.iter().filter(|n| other.contains(*n)).count()
-}
-
-/// How many numbers below a bound a set lacks.
-pub fn lacking_below(set: &SmallSet<u32>, bound: u32) -> usize
-    ensures { result ≡ length (filter (λ n. not (contains nat_eq fed.u32 set.now n)) (range_with_len 0 bound)) }
-{
-    (0..bound).filter(|n| !set.contains(n)).count()
 }

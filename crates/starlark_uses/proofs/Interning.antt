@@ -1,19 +1,18 @@
--- Numbers of texts: what a look-up in the set of strings finds, and what stands once a text is put last.
-use Rattle.starlark_hash.proofs.Common.{◌≡◌, ℕ, zero, suc, ◌<◌, Bool, true, false, cond, eqb, List, [], ◌∷◌, ◌++◌, length, get_or, Option, Some, None, IfSome, Result, Ok, refl, sym, ap, subst, ◌∙◌, arith, eq-eqb, ◌&&◌, slice_get, option_map, Bor, bytes_eq, Global, String, get_or-append_seam, get_or_append_left, length_push, map-append, All-append, position-Some, get_or_from_slice_get, slice_get-get_or, slice_get-map, slice_get_within, bytes_eq-Decides}
+-- Numbers of texts: what a look-up in the set of strings finds, and what an insertion makes of the texts.
+use Rattle.starlark_hash.proofs.Common.{◌≡◌, ℕ, zero, suc, ◌<◌, Bool, true, false, cond, eqb, List, [], ◌∷◌, ◌++◌, length, get_or, Option, Some, None, IfSome, Result, Ok, refl, sym, ap, subst, ◌∙◌, arith, eq-eqb, ◌&&◌, slice_get, option_map, bytes_eq, Global, String, get_or-append_seam, get_or_append_left, length_push, length-map, map-append, All-append, position-Some, get_or_from_slice_get, slice_get-get_or, slice_get-map, slice_get_within, bytes_eq-Decides, if◌then◌else◌, is_some, IsTrue, IfOk, OnOk, OnErr, MatchOption, MatchResult, Err}
 use Rattle.std.proofs.Common.{below_more}
-use Rattle.std.specs.Prelude.{All}
 use Rattle.std.specs.Hash as fed
 use Rattle.std.specs.String.{string_bytes}
-use Rattle.std.proofs.lemmas.Option.{MatchOption-at_none}
-use Rattle.std.proofs.lemmas.Result.{MatchResult-at_ok}
+use Rattle.std.specs.Prelude.{All}
 use Rattle.starlark_hash.specs.Entries.{Entry, entry_hash, entry_key, position_of}
 use Rattle.starlark_hash.specs.Hasher.{own_hash}
 use Rattle.starlark_hash.specs.HashValue.{hash_number, hashed}
 use Rattle.starlark_hash.proofs.PositionLemmas.{position-cons}
-use Rattle.starlark_sets.specs.Insert.{AddsFor}
+use Rattle.starlark_small.specs.Insert.{IsInserted, IsRefused}
+use Rattle.starlark_sets.specs.Insert.{AddsAt}
 use Rattle.starlark_sets.specs.Set.{Elements, Set}
 use Rattle.starlark_small.proofs.CallerLookup.{found_before, pushed_first, pushed_other, and_false}
-use Rattle.starlark_uses.specs.Interned.{HasNumbers, Texts, number_of, text_of, texts_in}
+use Rattle.starlark_uses.specs.Interned.{HasNumbers, Texts, interned, number_of, text_of, texts_in}
 
 abbrev pub Strings : Type 0
 Strings = Elements (String Global)
@@ -117,29 +116,48 @@ pub number_of-text : (es : Strings) → HasNumbers es → (text : List ℕ) (num
 number_of-text es has text number is =
     ap (number_of (texts_in es)) (sym (get_or_from_slice_get (texts_in es) number text [] is)) ∙ has.numbers number [] (slice_get_within (texts_in es) number text is)
 
--- what an addition to the set does to the texts, where the text had no number
-pub put_last : {E : Type 0} (old new : Set (String Global)) (text : List ℕ) (r : Result (Bor (String Global)) E) (shown : Bor (String Global)) (texts : Texts)
-    → HasNumbers old.entries → texts_in old.entries ≡ texts → number_of texts text ≡ None
-    → AddsFor (λ t key. bytes_eq t (string_bytes key)) (own_hash fed.str text) old new text r → r ≡ Ok shown
-    → HasNumbers new.entries × (texts_in new.entries ≡ texts ++ text ∷ [])
-put_last old new text r shown texts has view none adds done =
-    let none_in : number_of (texts_in old.entries) text ≡ None = ap (λ t. number_of t text) view ∙ none in
-    let put = MatchResult-at_ok _ _ shown done (MatchOption-at_none _ _ (found old.entries has text ∙ none_in) adds) in
-    let is : string_bytes shown.now ≡ text = sym ((bytes_eq-Decides text (string_bytes shown.now)).0 put.0) in (
-      subst HasNumbers (sym put.1.entries) (numbers-pushed old.entries text shown.now has none_in is),
-      ap texts_in put.1.entries ∙ texts-pushed old.entries text shown.now is ∙ ap (λ t. t ++ text ∷ []) view,
+-- the texts and their numbers, once an insertion for a text was done or refused
+pub record Interns {E : Type 0} (before after : Texts) (text : List ℕ) (r : Result ℕ E) : Type 0 where
+  pub number : IfOk r (λ number. number_of after text ≡ Some number)
+  pub texts : OnOk r (after ≡ interned before text)
+  pub stable : (other : List ℕ) (number : ℕ) → number_of before other ≡ Some number → number_of after other ≡ Some number
+  pub others : (other : List ℕ) → (other ≡ text → ⊥) → number_of after other ≡ number_of before other
+  pub absent : OnErr r (number_of before text ≡ None)
+
+-- an insertion that leaves the texts as they are, done or refused
+same-interned : {E : Type 0} (before after : Texts) (text : List ℕ) (r : Result ℕ E) → after ≡ before → IfOk r (λ number. number_of before text ≡ Some number) → OnErr r (number_of before text ≡ None)
+    → OnOk r (before ≡ interned before text) → Interns before after text r
+same-interned before after text r same number absent texts = rw same (record { number = number; texts = texts; stable = λ other n has. has; others = λ other differ. refl; absent = absent })
+
+interns_at : {E : Type 0} (old new : Set (String Global)) (text : List ℕ) → HasNumbers old.entries → (index : Option ℕ) → number_of (texts_in old.entries) text ≡ index → (r : Result ℕ E)
+    → MatchOption index
+    (MatchResult r (λ i. (i ≡ length old.entries) × ((key : String Global) × IsTrue (bytes_eq text (string_bytes key)) × IsInserted old new (hashed (own_hash fed.str text) key) tt)) (λ _. IsRefused old new))
+    (λ j. MatchResult r (λ i. (i ≡ j) × (new ≡ old)) (λ _. ⊥))
+    → HasNumbers new.entries × Interns (texts_in old.entries) (texts_in new.entries) text r
+interns_at old new text has None none (Ok i) h =
+    let before = texts_in old.entries in let key = h.1.0 in let is : string_bytes key ≡ text = sym ((bytes_eq-Decides text (string_bytes key)).0 h.1.1) in
+    let last : texts_in new.entries ≡ before ++ text ∷ [] = ap texts_in h.1.2.entries ∙ texts-pushed old.entries text key is in
+    let next : length before ≡ i = length-map old.entries (λ e. string_bytes (entry_key e)) ∙ sym h.0 in (
+      subst HasNumbers (sym h.1.2.entries) (numbers-pushed old.entries text key has none is),
+      record {
+        number = ap (λ t. number_of t text) last ∙ number_of-pushed before text none ∙ ap Some next;
+        texts = last ∙ ap (λ o. if is_some o then before else before ++ text ∷ []) (sym none);
+        stable = λ other n there. ap (λ t. number_of t other) last ∙ number_of-kept before text other n there;
+        others = λ other differ. ap (λ t. number_of t other) last ∙ number_of-pushed_other before text other differ;
+        absent = tt;
+      },
     )
+interns_at old new text has None none (Err e) h = (subst HasNumbers (sym h.entries) has, same-interned (texts_in old.entries) (texts_in new.entries) text (Err e) (ap texts_in h.entries) tt none tt)
+interns_at old new text has (Some j) at (Ok i) h =
+    let before = texts_in old.entries in let same = ap (λ (s : Set (String Global)). s.entries) h.1 in (
+      subst HasNumbers (sym same) has,
+      same-interned before (texts_in new.entries) text (Ok i) (ap texts_in same) (at ∙ ap Some (sym h.0)) tt (ap (λ o. if is_some o then before else before ++ text ∷ []) (sym at)),
+    )
+interns_at old new text has (Some j) at (Err e) h = absurd h
 
--- the next number, which a new text that is put last gets, and no other
-module _ (texts all : Texts) (text : List ℕ) (number : ℕ) (none : number_of texts text ≡ None) (last : all ≡ texts ++ text ∷ []) (next : number ≡ length texts) where
-  pub next_number : number_of all text ≡ Some number
-  next_number = ap (λ t. number_of t text) last ∙ number_of-pushed texts text none ∙ ap Some (sym next)
-
-  pub next_text : text_of all number ≡ Some text
-  next_text = text_of-number all text number next_number
-
-  pub next_different : (other : List ℕ) → number_of all other ≡ Some number → other ≡ text
-  next_different other has = one_text all text other number next_number has
+pub interns : {E : Type 0} (old new : Set (String Global)) (text : List ℕ) (r : Result ℕ E) → HasNumbers old.entries
+    → AddsAt (λ t key. bytes_eq t (string_bytes key)) (own_hash fed.str text) old new text r → HasNumbers new.entries × Interns (texts_in old.entries) (texts_in new.entries) text r
+interns old new text r has adds = interns_at old new text has (found_in old.entries text) (sym (found old.entries has text)) r adds
 
 pub numbered_so : (texts : Texts) (text : List ℕ) (o : Option ℕ) → o ≡ number_of texts text → IfSome o (λ number. text_of texts number ≡ Some text)
 numbered_so texts text None is = tt

@@ -1,7 +1,8 @@
 -- The pairs of a value that is a dictionary. A key is given by the bytes of its text.
-use Rattle.std.specs.Prelude.{ℕ, List, Option, Some, None}
+use Rattle.std.specs.Prelude.{ℕ, Bool, false, true, List, [], ◌∷◌, Option, Some, None}
+use Rattle.std.specs.Borrow.{Bor}
 use Rattle.std.specs.Map.{lookup, remove_entry}
-use Rattle.std.specs.Option.{option_and_then}
+use Rattle.std.specs.Option.{option_and_then, option_map, unwrap_or}
 use Rattle.std.specs.Str.{bytes_eq}
 use Rattle.std.specs.String.{string_bytes}
 use Rattle.std.specs.declared.alloc.Global.{Global}
@@ -24,6 +25,11 @@ pairs_of value = pairs_in (out-Value value)
 -- the value at the key with this text, of a dictionary that has it
 abbrev pub value_at : Value → List ℕ → Option Value
 value_at value text = option_and_then (lookup (λ key. bytes_eq text (string_bytes key))) (pairs_of value)
+
+-- whether there is a value along a path of keys
+abbrev pub has_path : Value → List (Bor (List ℕ)) → Bool
+has_path value [] = true
+has_path value (key ∷ keys) = unwrap_or (option_map (λ next. has_path next keys) (value_at value key.now)) false
 
 -- the pairs without the key that has this text; the proofs of callers never unfold this word
 unfoldable pub without_key : List (String Global × Value) → List ℕ → List (String Global × Value)

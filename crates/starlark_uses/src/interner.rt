@@ -1,5 +1,5 @@
 //! Texts as numbers, and back: what an interpreter does with the names that it reads.
-ghost use Rattle.std.specs.Prelude.{◌≡◌, ℕ, ◌++◌, List, [], ◌∷◌, length, None, Some, IfOk, IfSome, OnErr, OnOk};
+ghost use Rattle.std.specs.Prelude.{◌≡◌, ℕ, List, [], length, None, Some, IfOk, IfSome, OnErr, OnOk};
 ghost use Rattle.std.specs.Option.{option_copied};
 ghost use Rattle.starlark_uses.specs.Interned.{interned, number_of, text_of};
 
@@ -75,24 +75,7 @@ impl Interner {
         ensures absent { OnErr result (number_of self.old text.now ≡ None) }
         ensures unchanged { OnErr result (self.new ≡ self.old) }
     {
-        match self.number(text) {
-            Some(number) => Ok(number),
-            None => {
-                let number = self.put_last(text)?;
-                Ok(number)
-            }
-        }
-    }
-
-    // Gives a new text the next number.
-    fn put_last(&mut self, text: &str) -> Result<usize, AllocError>
-        requires { number_of self.old text.now ≡ None }
-        ensures number { IfOk result (λ number. number ≡ length self.old) }
-        ensures texts { OnOk result (self.new ≡ self.old ++ text.now ∷ []) }
-        ensures unchanged { OnErr result (self.new ≡ self.old) }
-    {
-        let number = self.texts.len();
-        self.texts.get_or_insert_owned(text)?;
+        let number = self.texts.index_or_insert_owned(text)?;
         Ok(number)
     }
 }

@@ -4,7 +4,7 @@ ghost use Rattle.std.specs.Prelude.{◌≡◌, ◌-◌, ◌^◌, ◌++◌, ◌�
 ghost use Rattle.std.specs.String.{string_bytes, string_eq};
 ghost use Rattle.starlark_dict.specs.Dict.{get, get_by_text, insert_entry};
 ghost use Rattle.starlark_uses.specs.Counts.{count};
-ghost use Rattle.starlark_uses.specs.Pairs.{pairs_of, value_at, without_key};
+ghost use Rattle.starlark_uses.specs.Pairs.{has_path, pairs_of, value_at, without_key};
 ghost use Rattle.starlark_uses.specs.Spelling.{spelled};
 
 use starlark_dict::Dict;
@@ -12,7 +12,7 @@ use starlark_hash::NoRoom;
 use std::alloc::{AllocError, Global};
 
 /// A value of an interpreter.
-#[derive(Debug, Drop)]
+#[derive(Debug, PartialEq, Drop)]
 pub enum Value {
     None,
     Int(i64),
@@ -76,6 +76,22 @@ impl Value {
         match self {
             Value::Dict(dict) => dict.get(key),
             _ => None,
+        }
+    }
+
+    /// Whether there is a value along a path of keys.
+    pub fn has_path(&self, path: &[&str]) -> bool
+        ensures { result ≡ has_path self.now path.now }
+    {
+        let Some((first, rest)) = path.split_first() else {
+            return true;
+        };
+        match self {
+            Value::Dict(dict) => match dict.get(*first) {
+                Some(next) => next.has_path(rest),
+                None => false,
+            },
+            _ => false,
         }
     }
 

@@ -7,6 +7,7 @@ ghost use Rattle.std.specs.String.{string_eq};
 ghost use Rattle.std.specs.declared.alloc.Global.{Global};
 ghost use Rattle.std.specs.declared.string.String.{String};
 ghost use Rattle.starlark_dict.specs.DictSet.{contains, contains_text, room, set_eq, set_len, IsUnique};
+ghost use Rattle.starlark_dict.specs.Retain.{CallableOnEach};
 
 use starlark_dict::{DictSet, Difference, Union, dict_set};
 use starlark_hash::NoRoom;
@@ -80,14 +81,16 @@ pub fn take_out<T: Eq + Hash + Drop>(set: &mut DictSet<T>, element: &T) -> Optio
 
 /// Takes the last element out, and answers it.
 pub fn take_last<T: Eq + Hash + Drop>(set: &mut DictSet<T>) -> Option<T>
-    ensures { result ≡ slice_get set.old.keys (set_len set.old - 1) }
+    ensures last { result ≡ slice_get set.old.keys (set_len set.old - 1) }
+    ensures gone { IfSome result (λ last. contains T.eq set.new last ≡ false) }
+    ensures others { IfSome result (λ last. (other : T) → T.eq last other ≡ false → contains T.eq set.new other ≡ contains T.eq set.old other) }
 {
     set.pop()
 }
 
 /// Keeps the elements that a test passes: no more than there were, and none that is new.
 pub fn keep_if<T: Eq + Hash + Drop, F: FnMut(&T) -> bool>(set: &mut DictSet<T>, keep: F)
-    requires { F.IsAlwaysCallable keep }
+    requires { CallableOnEach F.FnMut keep set.old.keys }
     ensures fewer { set_len set.new ≤ set_len set.old }
     ensures no_new { (element : T) → contains T.eq set.new element ≡ true → contains T.eq set.old element ≡ true }
     ensures filtered { (test : T → Bool) → ((f : F) (element : T) (keeps : Bool) (g : F) → CalledAt F.FnMut f element keeps g → keeps ≡ test element) → set.new.keys ≡ filter test set.old.keys }
@@ -160,6 +163,13 @@ pub fn of_numbers(alloc: Global, numbers: Vec<u32>) -> Result<DictSet<u32>, Allo
     ensures unique { IfOk result (IsUnique nat_eq) }
 {
     DictSet::from_iter(alloc, numbers)
+}
+
+/// A copy of numbers, which has the same ones.
+pub fn copied(set: &DictSet<u32>) -> Result<DictSet<u32>, AllocError>
+    ensures { IfOk result (λ copy. copy.keys ≡ set.now.keys) }
+{
+    set.clone()
 }
 
 /// The numbers that one set has and the other lacks, as a set.

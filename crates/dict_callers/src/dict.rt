@@ -25,13 +25,6 @@ pub fn named(dict: &Dict<String, u64>, name: &str) -> Option<u64>
     dict.get(name).copied()
 }
 
-/// The number at a number, or 0.
-pub fn score(scores: &Dict<u32, u64>, player: u32) -> u64
-    ensures { result ≡ unwrap_or (get nat_eq scores.now player) 0 }
-{
-    scores.get(&player).copied().unwrap_or(0)
-}
-
 /// Whether both dictionaries have the key.
 pub fn has_both<K: Eq + Hash, V, W>(d: &Dict<K, V>, e: &Dict<K, W>, key: &K) -> bool
     ensures { result ≡ is_some (get K.eq d.now key.now) && is_some (get K.eq e.now key.now) }
@@ -134,6 +127,14 @@ pub fn forget<K: Eq + Hash + Drop, V: Drop>(dict: &mut Dict<K, V>, key: &K)
     ensures others { (other : K) → K.eq key.now other ≡ false → get K.eq dict.new other ≡ get K.eq dict.old other }
 {
     dict.shift_remove(key);
+}
+
+/// Takes the last pair out, and answers it.
+pub fn take_last<K: Eq + Hash + Drop, V: Drop>(dict: &mut Dict<K, V>) -> Option<(K, V)>
+    ensures gone { IfSome result (λ last. get K.eq dict.new last.0 ≡ None) }
+    ensures others { IfSome result (λ last. (other : K) → K.eq last.0 other ≡ false → get K.eq dict.new other ≡ get K.eq dict.old other) }
+{
+    dict.pop()
 }
 
 /// A dictionary of known numbers, one put twice and another taken out.

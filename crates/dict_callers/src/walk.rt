@@ -2,7 +2,7 @@
 ghost use Rattle.std.specs.Map.{update_all};
 ghost use Rattle.std.specs.Map.Iter.{deref_pair};
 ghost use Rattle.std.specs.Option.{option_copied};
-ghost use Rattle.std.specs.Prelude.{[], ◌≡◌, ◌≤◌, ◌<◌, ◌^◌, ◌↔◌, All, Contains, IfOk, IfSome, IsNone, IsTrue, None, OnOk, Some, false, is_some, map, nat_eq, pos, sum, true, ℕ};
+ghost use Rattle.std.specs.Prelude.{[], ◌≡◌, ◌≤◌, ◌<◌, ◌^◌, ◌↔◌, All, Contains, IfOk, IfSome, IsNone, IsTrue, None, OnOk, Some, false, is_some, map, nat_eq, pos, sum, true};
 ghost use Rattle.starlark_dict.specs.Dict.{dict_len, get, get_by_text, insert_all, keys, values, IsUnique};
 ghost use Rattle.starlark_hash.specs.Clone.{IsEqualClone};
 
@@ -101,15 +101,6 @@ pub fn zeroed_values(dict: &mut Dict<String, u64>) -> usize
         *value = 0;
     }
     dict.len()
-}
-
-/// Writes 0 to each value of what is lent.
-pub fn zeroed_pairs(dict: &mut Dict<u32, u64>)
-    ensures { keys dict.new ≡ keys dict.old }
-{
-    for (_key, value) in &mut *dict {
-        *value = 0;
-    }
 }
 
 /// A dictionary of the pairs of a vector, inserted in turn.

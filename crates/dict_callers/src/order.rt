@@ -2,11 +2,8 @@
 ghost use Rattle.std.specs.HashMap.{hash_map_eq};
 ghost use Rattle.std.specs.Option.{option_map};
 ghost use Rattle.std.specs.Prelude.{[], ◌/◌, ◌∷◌, ◌≡◌, ◌≤◌, IfOk, IsSorted, OnOk, Some, filter, is_some, nat_eq, nat_lt, reverse, true, ℕ};
-ghost use Rattle.std.specs.String.{string_cmp, string_eq};
-ghost use Rattle.std.specs.declared.alloc.Global.{Global};
-ghost use Rattle.std.specs.declared.string.String.{String};
 ghost use Rattle.starlark_dict.specs.Compare.{same_ordered};
-ghost use Rattle.starlark_dict.specs.Dict.{dict_len, get, get_by_text, keys};
+ghost use Rattle.starlark_dict.specs.Dict.{dict_len, get, keys};
 ghost use Rattle.starlark_dict.specs.Retain.{with_each_value};
 
 use starlark_dict::{Dict, dict};
@@ -20,16 +17,6 @@ pub fn sorted<K: Ord + Hash, V>(dict: &mut Dict<K, V>) -> Result<(), AllocError>
     ensures count { dict_len dict.new ≡ dict_len dict.old }
 {
     dict.sort_keys()
-}
-
-/// Sorts names, and looks for one.
-pub fn sorted_named(dict: &mut Dict<String, u64>, name: &str) -> Result<Option<u64>, AllocError>
-    ensures ascend { OnOk result (IsSorted string_cmp (keys dict.new)) }
-    ensures same { (other : String Global) → get string_eq dict.new other ≡ get string_eq dict.old other }
-    ensures looked { IfOk result (λ value. value ≡ get_by_text dict.new name.now) }
-{
-    dict.sort_keys()?;
-    Ok(dict.get(name).copied())
 }
 
 /// Reverses the entries; each key has what it had.
@@ -58,17 +45,6 @@ pub fn halve(counts: &mut Dict<u32, u64>)
 {
     counts.retain(|_key, count| {
         *count /= 2;
-        true
-    });
-}
-
-/// Writes one value at each key.
-pub fn write_all<K: Eq + Hash + Drop>(dict: &mut Dict<K, u64>, value: u64)
-    ensures found { (key : K) → get K.eq dict.new key ≡ option_map (λ n. value) (get K.eq dict.old key) }
-    ensures keys { keys dict.new ≡ keys dict.old }
-{
-    dict.retain(|_key, there| {
-        *there = value;
         true
     });
 }
