@@ -1,5 +1,5 @@
-//! Plays a script of calls on the collections of `starlark_map`: reads standard input, and writes a line of answer for
-//! each command.
+//! Plays a script of calls on the collections of `starlark_map`, and on dictionaries: reads standard input, and writes a
+//! line of answer for each command.
 #![tactic(auto)]
 
 mod pages;

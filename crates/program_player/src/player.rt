@@ -1,6 +1,7 @@
 //! The collections of a script whose keys are of one kind, and which command goes to which.
 
 use crate::pages::Pages;
+use play_dicts::{Dicts, dicts};
 use play_maps::Maps;
 use play_sets::Sets;
 use play_tables::Tables;
@@ -12,6 +13,7 @@ use std::alloc::Global;
 #[derive(Drop)]
 pub struct Player<K: Key> {
     maps: Maps<K>,
+    dicts: Dicts<K>,
     sets: Sets<K>,
     tables: Tables<K>,
 }
@@ -21,6 +23,7 @@ impl<K: Key> Player<K> {
     pub fn new(alloc: Global) -> Player<K> {
         Player {
             maps: Maps::new(alloc),
+            dicts: dicts::new(alloc),
             sets: Sets::new(alloc),
             tables: Tables::new(alloc),
         }
@@ -76,6 +79,7 @@ impl<K: Key> Player<K> {
     fn call(&mut self, call: Call<'_>, out: &mut Out) -> Result<(), Fault> {
         match call.kind {
             "sm" | "om" | "tm" | "v2" => self.maps.play(call, out),
+            "dm" => dicts::play(&mut self.dicts, call, out),
             "ss" | "os" | "ts" | "tv" => self.sets.play(call, out),
             _ => self.tables.play(call, out),
         }
