@@ -1,13 +1,14 @@
 -- The bytes in a window.
-use Rattle.starlark_hash.proofs.Common.{◌≡◌, ℕ, ◌+◌, ◌-◌, ◌≤◌, min, List, ◌++◌, length, take, drop, sym, ap, ◌∙◌, arith, length-take, length-drop, append_assoc, Option, Some, None, Keeps, prepend_known, drop-drop}
+use Rattle.starlark_hash.proofs.Common.{◌≡◌, ◌≢◌, refl, ℕ, ◌+◌, ◌-◌, ◌≤◌, min, List, ◌++◌, length, take, drop, sym, ap, ◌∙◌, arith, length-take, length-drop, append_assoc, Option, Some, None, Keeps, prepend_known, drop-drop}
 use Rattle.std.specs.Prelude.{slice_range}
 use Rattle.std.specs.List.{copy_within}
 use Rattle.std.specs.Io.KnownBytes.{Consumes}
-use Rattle.starlark_script.specs.Found.{IsHeld, ShowsBreak}
+use Rattle.starlark_script.specs.Found.{HasNoBreak, IsHeld, ShowsBreak}
 use Rattle.starlark_script.specs.declared.window.Found.{Found}
 use Rattle.starlark_script.specs.declared.window.Found.TheVariants.{End, Line, TooLong}
 use Rattle.std.proofs.lemmas.List.Edits.{take-paste}
 use Rattle.std.proofs.Math.Seq.{take-add}
+use Rattle.std.proofs.lemmas.List.Elements.{All-drop}
 use Rattle.std.proofs.lemmas.List.{drop-take, drop_min}
 
 range-drop : (xs : List ℕ) (i j n : ℕ) → n ≤ j - i → slice_range xs (i + n) j ≡ drop n (slice_range xs i j)
@@ -45,3 +46,9 @@ pub held-from-break : (found : Found) (held : List ℕ) → ShowsBreak found hel
 held-from-break End held h = tt
 held-from-break (Line n) held h = (omega arith, omega arith)
 held-from-break TooLong held h = tt
+
+-- few bytes without a line feed show no line
+pub none-shown : (held : List ℕ) → length held ≤ 1000 → HasNoBreak held → (found : Found) → ShowsBreak found held → ⊥
+none-shown held short whole End h = h
+none-shown held short whole (Line n) h = (rw h.3 at (All-drop (λ b. b ≢ 10) n held whole)) 0 0 (omega arith) refl
+none-shown held short whole TooLong h = omega arith

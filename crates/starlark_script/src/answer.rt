@@ -8,7 +8,7 @@ ghost use Rattle.starlark_hash.specs.Entries.{pair_of, value_at, match_of, witho
 ghost use Rattle.starlark_hash.specs.Insert.{insert_entry};
 ghost use Rattle.starlark_hash.specs.Sort.{Ascends, sorted_by_key};
 ghost use Rattle.starlark_script.specs.Shown.{shown, shown_key};
-ghost use Rattle.starlark_script.specs.Memory.{LeavesMemory};
+ghost use Rattle.starlark_script.specs.Memory.{LacksRoom, LeavesMemory};
 ghost use Rattle.starlark_script.specs.Replies.{MayNeedMemory, bytes_cmp, ended, value_text, pair_text, entry_text, reply, after};
 ghost use Rattle.starlark_script.specs.ShownEntries.{entries_of};
 ghost use Rattle.starlark_small.specs.Index.{unindexed};
@@ -23,7 +23,8 @@ use std::io::Write;
 
 /// Does what a line asks for, and writes the reply. Keys are equal if their hashes and their bytes are, and are sorted by
 /// their bytes. Memory is refused only to a new key, to a sort of keys that do not ascend, and to a reservation of more
-/// than 0; then nothing is written. `reserve` and `slim` leave the room and the hash index that the map's calls leave.
+/// than there is room for; then nothing is written. `reserve` and `slim` leave the room and the hash index that the map's
+/// calls leave.
 pub fn answer<W: Write>(
     alloc: Global,
     map: &mut SmallMap<String, i64>,
@@ -35,6 +36,7 @@ pub fn answer<W: Write>(
     ensures room { OnOk result (LeavesMemory map.old map.new (shown line.entry)) }
     ensures memory { result ≡ Err PlayFault.Memory → Keeps (W.contents writer.old) (W.contents writer.new) }
     ensures needed { result ≡ Err PlayFault.Memory → MayNeedMemory (entries_of map.old.entries) (shown line.entry) }
+    ensures lacking { result ≡ Err PlayFault.Memory → LacksRoom map.old (shown line.entry) }
     ensures good { (n : ℕ) → result ≢ Err (PlayFault.BadLine n) }
 {
     match line {
@@ -161,7 +163,7 @@ fn reserve(map: &mut SmallMap<String, i64>, additional: usize) -> Result<(), Pla
     ensures entries { entries_of map.new.entries ≡ entries_of map.old.entries }
     ensures room { OnOk result (additional ≤ map.new.room) }
     ensures err { IfErr result (λ fault. fault ≡ PlayFault.Memory) }
-    ensures needed { OnErr result (0 < additional) }
+    ensures needed { OnErr result (map.old.room < additional) }
 {
     if map.reserve(additional).is_err() {
         Err(PlayFault::Memory)

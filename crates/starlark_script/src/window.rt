@@ -1,7 +1,8 @@
 //! Lines of at most 1,000 bytes, cut out of a reader's bytes.
-ghost use Rattle.std.specs.Prelude.{◌≡◌, ℕ, ◌+◌, ◌-◌, ◌<◌, ◌≤◌, List, [], length, take, drop, slice_range, position, ◌==◌, IfSome, IfNone, OnOk, IfErr, IfOk};
+ghost use Rattle.std.specs.Prelude.{◌≡◌, ℕ, ◌+◌, ◌-◌, ◌<◌, ◌≤◌, List, [], length, take, drop, slice_range, position, ◌==◌, IfSome, IfNone, IsOk, OnOk, IfErr, IfOk};
 ghost use Rattle.std.specs.Io.KnownBytes.{Keeps, Consumes, IsAtEnd, prepend_known};
 ghost use Rattle.starlark_script.specs.Found.{HasNoBreak, IsHeld, Shows, ShowsBreak, ShowsRest};
+ghost use Rattle.starlark_script.specs.declared.window.Found.{Found};
 
 use crate::fault::PlayFault;
 use std::io;
@@ -74,23 +75,40 @@ impl Window {
         self.start += held.min(len + 1);
     }
 
-    /// Reads on, one block each time, until the first line is whole or too long, or the input has ended. A failed read ends
-    /// it, whatever its kind.
+    /// Finds the first line, or that it is too long, or that the input has ended. Reads only while the bytes in the window do
+    /// not tell, one block each time. A failed read ends it, whatever its kind.
     pub fn find_line<R: Read>(&mut self, reader: &mut R) -> Result<Found, PlayFault>
+        ensures kept { OnOk result (Keeps (prepend_known self.old (R.remaining reader.old)) (prepend_known self.new (R.remaining reader.new))) }
+        ensures shows { IfOk result (λ found. Shows found self.new (R.remaining reader.new)) }
+        ensures held { IfOk result (λ found. IsHeld found self.new) }
+        // A line that is in the window is shown before anything is read.
+        ensures unread { (found : Found) → ShowsBreak found self.old → IsOk result × (self.new ≡ self.old) × Keeps (R.remaining reader.old) (R.remaining reader.new) }
+        ensures err { IfErr result (λ fault. fault ≡ PlayFault.Io) }
+    {
+        if let Some(held) = found_in(self.bytes()) {
+            return Ok(held);
+        }
+        self.read_on(reader)
+    }
+
+    // Reads on, until the first line is whole or too long, or the input has ended.
+    fn read_on<R: Read>(&mut self, reader: &mut R) -> Result<Found, PlayFault>
+        requires short { length self.old ≤ LONGEST }
+        requires whole { HasNoBreak self.old }
         ensures kept { OnOk result (Keeps (prepend_known self.old (R.remaining reader.old)) (prepend_known self.new (R.remaining reader.new))) }
         ensures shows { IfOk result (λ found. Shows found self.new (R.remaining reader.new)) }
         ensures held { IfOk result (λ found. IsHeld found self.new) }
         ensures err { IfErr result (λ fault. fault ≡ PlayFault.Io) }
     {
         for _ in 0..u64::MAX {
-            if let Some(found) = found_in(self.bytes()) {
-                return Ok(found);
-            }
             let Ok(n) = self.refill(reader) else {
                 return Err(PlayFault::Io);
             };
             if n == 0 {
                 return Ok(last_of(self.bytes()));
+            }
+            if let Some(found) = found_in(self.bytes()) {
+                return Ok(found);
             }
         }
         Err(PlayFault::Io)

@@ -8,6 +8,7 @@ use starlark_map::ordered_set::OrderedSet;
 use starlark_map::small_map::SmallMap;
 use starlark_map::small_set::SmallSet;
 use starlark_map::unordered_map::UnorderedMap;
+use starlark_map::unordered_set::UnorderedSet;
 use std::alloc::{AllocError, Global};
 use std::cell::Cell;
 use std::hash::{Hash, Hasher};
@@ -55,11 +56,28 @@ fn hashed_by(alloc: Global, calls: &Cell<u32>) -> [u32; 5] {
     [entered, found, inserted, tried, calls.replace(0)]
 }
 
+// How often a key is hashed by `insert` of a set of each kind, and of an ordered map.
+fn hashed_by_insert(alloc: Global, calls: &Cell<u32>) -> [u32; 4] {
+    let mut set: SmallSet<Counted<'_>> = SmallSet::new(alloc);
+    let _ = set.insert(counting(1, calls)).is_ok();
+    let small = calls.replace(0);
+    let mut ordered: OrderedSet<Counted<'_>> = OrderedSet::new(alloc);
+    let _ = ordered.insert(counting(1, calls)).is_ok();
+    let of_ordered = calls.replace(0);
+    let mut unordered: UnorderedSet<Counted<'_>> = UnorderedSet::new(alloc);
+    let _ = unordered.insert(counting(1, calls)).is_ok();
+    let of_unordered = calls.replace(0);
+    let mut map: OrderedMap<Counted<'_>, u32> = OrderedMap::new(alloc);
+    let _ = map.insert(counting(1, calls), 10).is_ok();
+    [small, of_ordered, of_unordered, calls.replace(0)]
+}
+
 // Case: a key is hashed once, when it is inserted
 #[test]
 fn hashes_a_key_once_by_each_call(rt: HostRuntime) {
     let calls = Cell::new(0u32);
     same(&rt, hashed_by(rt.alloc(), &calls), [1; 5]);
+    same(&rt, hashed_by_insert(rt.alloc(), &calls), [1; 4]);
 }
 
 // Case: a key is hashed once, when it is inserted

@@ -108,6 +108,20 @@ fn begins_unordered_with_room_for_the_items(rt: HostRuntime) -> Result<(), Fail>
     Ok(())
 }
 
+// How many pairs the map of the standard library has room for that takes the pairs of an unordered map of so many.
+fn hash_map_capacity(alloc: Global, n: u32) -> Result<usize, Fail> {
+    let map = UnorderedMap::from_iter(alloc, (0..n).map(|i| (i, i)))?;
+    Ok(map.into_hash_map()?.capacity())
+}
+
+// Case: a map of the standard library is made no larger than its pairs need
+#[test]
+fn makes_no_larger_hash_map_than_it_needs(rt: HostRuntime) -> Result<(), Fail> {
+    let capacity = hash_map_capacity(rt.alloc(), 100)?;
+    same(&rt, capacity, capacity.clamp(100, 224));
+    Ok(())
+}
+
 // The iterators promise more items than can be addressed. All items are one and the same: begun with less room, a type
 // would go through all of them.
 // Case: `from_iter` begins with room for what its iterator promises

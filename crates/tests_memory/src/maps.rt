@@ -188,3 +188,16 @@ fn owned(alloc: Global) -> Result<(usize, bool), AllocError> {
 fn inserts_owned_texts_into_room(rt: HostRuntime) {
     gives(&rt, owned(rt.alloc()), owned(rt.alloc()), (3, true));
 }
+
+// The numbers of two texts in a set without room, and of the first one again.
+fn numbered(alloc: Global) -> Result<[usize; 3], AllocError> {
+    let mut set: SmallSet<String> = SmallSet::new(alloc);
+    let first = set.index_or_insert_owned("a")?;
+    let second = set.index_or_insert_owned("b")?;
+    Ok([first, second, set.index_or_insert_owned("a")?])
+}
+
+#[test]
+fn numbers_texts(rt: HostRuntime) {
+    gives(&rt, numbered(rt.alloc()), numbered(rt.alloc()), [0, 1, 0]);
+}

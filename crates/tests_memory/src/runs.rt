@@ -85,6 +85,22 @@ fn forty_keys(alloc: Global, drops_index: bool) -> Result<Vec<Command<u32, u32>>
     Ok(commands)
 }
 
+// Whether a run made room for two thousand keys.
+fn made_room(alloc: Global) -> Result<bool, AllocError> {
+    let mut map: Numbers = SmallMap::new(alloc);
+    let commands = vec![in alloc; Command::Reserve(2000)]?;
+    let replies = run(alloc, &mut map, commands, value_of)?;
+    Ok(matches!(replies.get(0), Some(Reply::Done)))
+}
+
+// Of two runs one finds memory.
+// Case: room for two thousand is reserved by a run
+#[test]
+fn makes_room_for_two_thousand(rt: HostRuntime) {
+    let made = [made_room(rt.alloc()), made_room(rt.alloc())];
+    same(&rt, made.contains(&Ok(true)), true);
+}
+
 // Whether the room was reserved, how many keys were inserted, and how many there are.
 fn done_with_room(alloc: Global, drops_index: bool) -> Result<(bool, usize, usize), AllocError> {
     let mut map: Numbers = SmallMap::new(alloc);

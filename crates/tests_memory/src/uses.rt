@@ -135,19 +135,25 @@ fn binds_names(rt: HostRuntime) {
     gives(&rt, bound(rt.alloc()), bound(rt.alloc()), (Some(2), 1));
 }
 
-// A dictionary with two keys, of which one is set twice, in a copy from which the other was deleted: how many values the
-// dictionary is made of, and its copy.
-fn keyed(alloc: Global) -> Result<(u64, u64), AllocError> {
+// A dictionary with two keys, of which one is set twice, and a copy from which the other is deleted: how many values the
+// dictionary is made of, and its copy then; and whether the two are equal before, and then.
+fn keyed(alloc: Global) -> Result<(u64, u64, bool, bool), AllocError> {
     let mut value = Value::Dict(Dict::new(alloc));
     value.set_key(String::from_str(alloc, "width")?, Value::Int(80))?;
     value.set_key(String::from_str(alloc, "depth")?, Value::Int(3))?;
     value.set_key(String::from_str(alloc, "width")?, Value::Int(40))?;
     let mut copy = value.copy(alloc)?;
+    let same = copy == value;
     copy.delete_key("depth");
-    Ok((value.count(), copy.count()))
+    Ok((value.count(), copy.count(), same, copy == value))
 }
 
 #[test]
 fn sets_and_copies_keys(rt: HostRuntime) {
-    gives(&rt, keyed(rt.alloc()), keyed(rt.alloc()), (3, 2));
+    gives(
+        &rt,
+        keyed(rt.alloc()),
+        keyed(rt.alloc()),
+        (3, 2, true, false),
+    );
 }

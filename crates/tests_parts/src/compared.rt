@@ -135,6 +135,28 @@ fn ordered(alloc: Global, notes: &Notes, count: u32) -> u32 {
     right
 }
 
+// Goes to the entry of each key twice, where it is lacking and where it is there: how many keys there are then.
+fn entered(alloc: Global, notes: &Notes, count: u32) -> usize {
+    let mut map: SmallMap<Noted<'_>, u32> = SmallMap::new(alloc);
+    for number in 0..count {
+        let _ = map.entry(key(notes, number)).or_insert(number);
+        let _ = map.entry(key(notes, number)).or_insert(number);
+    }
+    map.len()
+}
+
+// Case: a look-up compares a query with each key of its hash at most once
+#[test]
+fn compares_keys_of_entries_once(rt: HostRuntime) {
+    let notes = Notes {
+        seen: Cell::new(0),
+        amiss: Cell::new(0),
+    };
+    same(&rt, entered(rt.alloc(), &notes, 10), 10);
+    same(&rt, entered(rt.alloc(), &notes, 100), 100);
+    same(&rt, notes.amiss.get(), 0);
+}
+
 // Case: a look-up compares a query with each key of its hash at most once
 #[test]
 fn compares_elements_of_sets_once(rt: HostRuntime) {
