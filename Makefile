@@ -1,11 +1,11 @@
 # The program is proved and run by the kit's command `rt`; nothing else is needed. `make` alone lists the targets, and each
-# target says its line, on standard error, before it begins.
+# target prints its line, on standard error, before it begins.
 
 # a script, by its path: of map calls; of `play`, of calls on collections of all kinds
 SCRIPT ?= examples/first.script
 # a crate, by its name; of `wrong`, none: all; of `vendor`, the crate of the other repository that is to use the library
 CRATE ?=
-# a wrong body, by its name
+# a mutant, by its name
 BODY ?=
 # the lines of a benchmark run of Rust's, to be set beside ours; none: ours alone
 RUST ?=
@@ -43,7 +43,7 @@ play: ## plays SCRIPT (examples/player.script), calls on several collections, wi
 	$(says)
 	@./examples/play try "$$SCRIPT" program_player
 
-check: ## proves CRATE and what it stands on: minutes for each crate the first time, then seconds
+check: ## proves CRATE and the crates below it: minutes for each crate the first time, then seconds
 	$(says)
 	@./examples/crate "$$CRATE"
 	@cd "crates/$$CRATE" && rt check
@@ -81,7 +81,7 @@ vendor: ## copies the library INTO another repository, whose CRATE is to use it,
 	$(says)
 	@./vendor/copy "$$INTO" $(if $(CRATE),"$$CRATE") $(if $(TYPES),"--types=$$TYPES") $(if $(PROOFS),--proofs)
 
-wrong: ## tries the wrong body BODY, in about a minute, and prints the goal at which the check stops; or those beside the gate, of CRATE or of all: minutes for each crate
+wrong: ## tries the mutant BODY, in about a minute, and prints the goal at which the check stops; or those outside the gate, of CRATE or of all: minutes for each crate
 	$(says)
 	@if [ -n "$$BODY" ]; then ./wrong-bodies/one "$$BODY"; elif [ -n "$$CRATE" ]; then ./wrong-bodies/try "$$CRATE"; else ./wrong-bodies/try; fi
 

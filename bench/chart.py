@@ -7,7 +7,7 @@ OURS and RUST are the lines of benchmark runs, as compare.py reads them. Of a pa
 a heading is drawn: a row for each kind of work, a column for each length, ratios as `1.4` or `0.6 to 0.7` in the cells. Rows
 of unordered maps are left out, so that the picture is no wider than a page.
 
-A bar begins at Rust's time, 1.0: upwards ours takes longer, downwards less. Where several figures stand for one bar, as
+A bar begins at Rust's time, 1.0: upwards ours takes longer, downwards less. Where one bar has several figures, as
 those of two types of keys, it is full up to the nearest of them, and pale from there to the farthest.
 """
 
@@ -97,7 +97,7 @@ def words(x, y, what, anchor="middle", weight="normal"):
 
 
 def scale(found):
-    """The powers of two between which all ratios are, and the height at which a ratio stands."""
+    """The powers of two between which all ratios are, and the height of a ratio."""
     ends = [end for row in found.values() for pair in row.values() for end in pair]
     floor = min(-1, math.floor(math.log2(min(ends))))
     ceiling = max(1, math.ceil(math.log2(max(ends))))
@@ -170,7 +170,7 @@ def main():
     else:
         lengths, found = ratios_of_runs(sys.argv[1], sys.argv[2])
     if not found:
-        sys.exit("no figure of the one stands beside a figure of the other")
+        sys.exit("the two have no workload in common")
     print(picture(lengths, found))
 
 

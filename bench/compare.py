@@ -3,8 +3,8 @@
 usage: compare.py OURS[,OURS ..] [RUST[,RUST ..]]
 
 A line is `WORKLOAD.WHAT.KEYS N NS_PER_OP CHECKSUM`; of several runs of one side the least time of each line counts. Ours
-are `proved`, whose look-ups are by a hash that was computed before, and `by_key`; they stand beside Rust's `upstream` and
-`upstream-hashing`, or beside the one of these that there is. Of the kit's maps the quickest counts. A ratio is our time by
+are `proved`, whose look-ups are by a precomputed hash, and `by_key`; they are compared with Rust's `upstream` and
+`upstream-hashing`, or with the one of these that there is. Of the kit's maps the quickest counts. A ratio is our time by
 the other: above 1 ours takes longer. Ends with status 1 where two checksums of one workload differ, but for those of
 hashes, of which ours and Rust's are not the same.
 """

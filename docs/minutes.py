@@ -1,7 +1,7 @@
 #!/usr/bin/env python3
 """Runs the gate, and writes into CONTRIBUTING.md how many minutes of a processor each crate took.
 
-A crate's proof, the proof of its tests, its wrong bodies and its runs are told apart by the folder in which the kit works on
+A crate's proof, the proof of its tests, its mutants and its runs are told apart by the folder in which the kit works on
 them. The kit may keep what an earlier run proved; `--anew`, where the kit knows it, has all done in this run.
 """
 import os
@@ -35,11 +35,11 @@ def sample(session, seen):
 
 
 def table(seen, seconds, total):
-    """The lines of the table: the crates that took most stand first."""
+    """The lines of the table: the crates that took most come first."""
     crates = {}
     for crate, is_edit, taken in seen.values():
         crates.setdefault(crate, [0, 0])[is_edit] += taken / 60
-    yield "| Crate | Proof | Wrong bodies |"
+    yield "| Crate | Proof | Mutants |"
     yield "|---|---|---|"
     for crate, (proof, edits) in sorted(crates.items(), key=lambda item: -sum(item[1])):
         yield f"| `{crate}` | {proof:.1f} | {f'{edits:.1f}' if edits else ''} |"

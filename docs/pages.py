@@ -2,13 +2,13 @@
 """The pages of docs/reference, which are written from the sources, and what a page may not say.
 
     docs/pages.py write    writes docs/reference, of each crate that a user copies: the public calls with their comments and
-                           contracts, a page a type, and the words of these contracts with their comments and definitions; and
+                           contracts, a page a type, and the definitions in these contracts with their comments; and
                            docs/CASES.md, where each case of docs/cases.txt is
-    docs/pages.py check    says where a page is not what the sources say: a written page that is out of date; a public word of
-                           specs/ or a public function with no comment; a name, a clause, a file, a wrong body, a target of make,
-                           a link or a heading that is not there; a number of crates, wrong bodies, callers or commands that is
-                           another; a public call with a condition that docs/DECISIONS.md does not list; lines that are quoted
-                           from a file where they do not stand; a name in elsewhere.txt that no page needs; a changelog that does
+    docs/pages.py check    says where a page is not what the sources say: a written page that is out of date; a public definition
+                           of specs/ or a public function with no comment; a name, a clause, a file, a mutant, a target of make,
+                           a link or a heading that is not there; a number of crates, mutants, examples of use or commands
+                           that is another; a public call with a condition that docs/DECISIONS.md does not list; lines that are quoted
+                           from a file that does not have them; a name in elsewhere.txt that no page needs; a changelog that does
                            not begin with VERSION; where crates/tests_memory/calls.txt is not the list of the calls that may be
                            refused; a name in docs/cases.txt that no case has, and a case that has no name there
 
@@ -19,10 +19,10 @@ import sys
 from collections import Counter
 from functools import cache
 
-from sources import NAME, TOP, clauses_of, copied, crates, indent, library, may_refuse, named, parsed, public_calls, tracked, word_files, words_of
+from sources import NAME, TOP, clauses_of, copied, crates, definition_files, definitions_of, indent, library, may_refuse, named, parsed, public_calls, tracked
 from written import REFERENCE, anchors, listed_cases, places_of_cases, reference
 
-FILE = re.compile(r"(?<![\w/.-])[\w-]+(?:/[\w.-]+)*\.(?:rt|antt|py|edit|txt|md|script|svg)\b(?![(\w])")
+FILE = re.compile(r"(?<![\w/.+-])[\w+-]+(?:/[\w.+-]+)*\.(?:rt|antt|py|edit|txt|md|script|svg)\b(?![(\w])")
 WORDS = "no one two three four five six seven eight nine ten eleven twelve thirteen fourteen fifteen sixteen seventeen eighteen nineteen twenty".split()
 # of one and of two a page may speak without counting
 NUMBER = rf"\b(\d[\d,]*|{'|'.join(WORDS[3:])})\b"
@@ -30,7 +30,7 @@ NUMBER = rf"\b(\d[\d,]*|{'|'.join(WORDS[3:])})\b"
 
 @cache
 def pages():
-    """The pages, each with its text, that outside of blocks of code, and, of those that are written by hand, what stands in backticks
+    """The pages, each with its text, that outside of blocks of code, and, of those that are written by hand, what is in backticks
     there."""
     found = []
     for page in tracked("*.md"):
@@ -48,8 +48,8 @@ def faults():
         if not (TOP / name).exists() or (TOP / name).read_text() != written.get(name):
             yield f"{name} is not what the sources say: make pages"
     for crate in library():
-        for path in word_files(crate):
-            yield from (f"{named(path)}: the public word {it.name} has no comment" for it in words_of(path)[1] if not it.note)
+        for path in definition_files(crate):
+            yield from (f"{named(path)}: the public definition {it.name} has no comment" for it in definitions_of(path)[1] if not it.note)
         for path in tracked(f"crates/{crate}/src/*.rt"):
             yield from (f"{named(path)}: the public function {it.owner and it.owner + '::'}{it.name} has no comment" for it in public_calls(path) if not it.note)
     version, newest = (TOP / "VERSION").read_text().strip(), re.search(r"^## (\S+),", (TOP / "CHANGELOG.md").read_text(), re.M)
@@ -67,7 +67,7 @@ def faults():
 
 
 def names_not_there():
-    """What stands in backticks and no source has: each with its page, and what it stands in."""
+    """What is in backticks and no source has: each with its page, and all that the backticks hold."""
     sources = {page.stem for page, *_ in pages()}
     for path in tracked("."):
         if path.suffix != ".md" and path.name != "elsewhere.txt" and path.parent.name != "results":
@@ -105,24 +105,24 @@ def faults_of_names():
 
 
 def bodies():
-    """The wrong bodies that the gate tries, and those beside it, each with its crate."""
+    """The mutants that the gate tries, and those outside it, each with its crate."""
     gate = [(path.parts[-3], path.stem) for path in tracked("crates/*/must-fail/*.edit")]
     return gate, [(path.parts[-2], path.stem) for path in tracked("wrong-bodies/*.edit")]
 
 
 def faults_of_bodies():
-    """The list of wrong bodies has a row for each; what it names by their rules, and what other pages name, is there."""
+    """The list of mutants has a row for each; what it names by their rules, and what other pages name, is there."""
     name, there = "wrong-bodies/README.md", sum(bodies(), [])
     rules, _, rows = (TOP / name).read_text().partition("## By crate")
-    listed = re.findall(r"^\| (\w+) \| ([\w-]+) \|", rows, re.M)
+    listed = re.findall(r"^\| ([a-z]\w*) \| ([\w-]+) \|", rows, re.M)
     for crate, it in sorted({*there, *listed}):
         if there.count((crate, it)) != listed.count((crate, it)):
             yield f"{name}: {crate} has {it} {there.count((crate, it))} times, the list {listed.count((crate, it))} times"
     for crate, names in re.findall(r"\b(\w+): ([\w-]+-[\w-]+(?:, [\w-]+)*)", rules):
-        yield from (f"{name}: {crate} has no wrong body {it}" for it in names.split(", ") if (crate, it) not in there)
+        yield from (f"{name}: {crate} has no mutant {it}" for it in names.split(", ") if (crate, it) not in there)
     for page, text, _, quotes in pages():
         cited = [*re.findall(r"BODY=([a-z][\w-]+)", text), *(it for it in quotes if re.fullmatch(r"[a-z_]+(-[a-z_]+){3,}", it))]
-        yield from (f"{named(page)}: there is no wrong body {it}" for it in cited if it not in [body for _, body in there])
+        yield from (f"{named(page)}: there is no mutant {it}" for it in cited if it not in [body for _, body in there])
 
 
 def number(said):
@@ -142,10 +142,10 @@ def counts():
         "# crates beside it": sum(len(line.split()) - 1 for line in re.findall("^ *app: (.*)$", guide, re.M)),
         r"\(`must-fail/`\) in # crates": len({crate for crate, _ in gate}),
         "# crates": len(crates()),
-        "# (?:mutants|wrong bodies) (?:in|of|tried by) the gate": len(gate),
-        "# (?:mutants |wrong bodies )?(?:beside|outside) (?:it|the gate)": len(beside),
-        "# (?:mutants|wrong bodies)": len(gate) + len(beside),
-        "# (?:callers|examples of use)": sum(len(public_calls(path)) for path in tracked("crates/starlark_callers/src/*.rt")),
+        "# mutants (?:in|of|tried by) the gate": len(gate),
+        "# (?:mutants )?outside (?:it|the gate)": len(beside),
+        "# mutants": len(gate) + len(beside),
+        "# examples of use": sum(len(public_calls(path)) for path in tracked("crates/*_callers/src/*.rt")),
         r"# commands of \[`Command`\]": len(re.findall("^    [A-Z]", enum.partition("pub enum Command<")[2].partition("\n}")[0], re.M)),
         "first # commands are": of_rust,
         "answers to # of them": of_rust,
@@ -174,10 +174,10 @@ def fields_of(says, records, seen=()):
 
 def faults_of_clauses():
     """Clauses are cited behind their call, as `Type::call`: `clause`, `clause`. On the page of guarantees functions are calls too,
-    a bar of a table may stand for the colon, and of several calls each has each of the clauses."""
+    a bar of a table may take the place of the colon, and of several calls each has each of the clauses."""
     records, clauses = {}, {}
-    for word in [it for crate in library() for path in word_files(crate) for it in words_of(path)[1]]:
-        records.setdefault(word.name, {}).update(word.fields)
+    for it in [it for crate in library() for path in definition_files(crate) for it in definitions_of(path)[1]]:
+        records.setdefault(it.name, {}).update(it.fields)
     for path in [path for crate in library() for path in tracked(f"crates/{crate}/src/*.rt")]:
         for call in public_calls(path):
             for name, says in clauses_of(call):
@@ -210,13 +210,13 @@ def faults_of_links():
 
 
 def faults_of_quotes():
-    """Quotes are code blocks that name a file beside their language. Their lines stand there one below the other, at whatever depth."""
+    """Quotes are code blocks that name a file beside their language. The file has their lines one below the other, at whatever depth."""
     def cut(lines):
         depth = min((indent(line) for line in lines if line.strip()), default=0)
         return [line[depth:].rstrip() for line in lines]
 
     for page, text, _, _ in pages():
-        for name, code in re.findall(r"^```\w+ (\S+)\n(.*?)^```$", text, re.M | re.S):
+        for name, code in re.findall(r"^ *```\w+ (\S+)\n(.*?)^ *```$", text, re.M | re.S):
             quoted, path = cut(code.splitlines()), TOP / name
             lines = path.read_text().splitlines() if path.is_file() else []
             if not any(cut(lines[i : i + len(quoted)]) == quoted for i in range(len(lines))):

@@ -1,4 +1,4 @@
-"""What the sources say: the crates, their public calls with comments and clauses, and the words of their specs/."""
+"""What the sources say: the crates, their public calls with comments and clauses, and the definitions of their specs/."""
 import re
 import subprocess
 from collections import namedtuple
@@ -25,7 +25,7 @@ def indent(line):
 
 
 def crates():
-    """What each crate stands on, in the order of crates.txt."""
+    """What each crate uses, in the order of crates.txt."""
     lines = [line.split(":") for line in (TOP / "crates.txt").read_text().split("\n") if ":" in line and line[0] != "#"]
     return {name.strip(): deps.split() for name, deps in lines}
 
@@ -35,7 +35,7 @@ def library():
 
 
 def copied():
-    """starlark_map, starlark_dict and the crates below them, each before those that it stands on."""
+    """starlark_map, starlark_dict and the crates below them, each before those that it uses."""
     needed = {"starlark_map", "starlark_dict"}
     for crate, deps in reversed(crates().items()):
         needed.update(deps if crate in needed else [])
@@ -43,11 +43,11 @@ def copied():
 
 
 # A call is public by itself ("pub"), by a public trait that asks for it ("trait"), or as that of an impl of a trait ("impl"); its
-# head is its signature and its clauses, and `around` the line of the impl or trait that it is in. The fields of a word are those of
+# head is its signature and its clauses, and `around` the line of the impl or trait that it is in. The fields of a definition are those of
 # a record, with what they say, and its code is what a page shows of it.
 
 Call = namedtuple("Call", "owner name note head kind around")
-Word = namedtuple("Word", "name note fields code")
+Definition = namedtuple("Definition", "name note fields code")
 # a definition of more lines is not shown
 SHORT = 5
 
@@ -126,15 +126,15 @@ def clauses_of(call):
     return found
 
 
-def word_files(crate):
+def definition_files(crate):
     return [path for path in tracked(f"crates/{crate}/specs/*.antt") if path.name not in ("Lib.antt", "formers.antt") and "formers" not in path.parts]
 
 
 @cache
-def words_of(path):
-    """What a file of specs/ is about, and its public words. The code of a word begins with the modules that it is in, whose
-    parameters come before its own."""
-    lead, words, note, modules = "", [], [], []
+def definitions_of(path):
+    """What a file of specs/ is about, and its public definitions. The code of a definition begins with the modules
+    that it is in, whose parameters come before its own."""
+    lead, definitions, note, modules = "", [], [], []
     lines = path.read_text().split("\n")
     for at, line in enumerate(lines):
         text = line.strip()
@@ -143,7 +143,7 @@ def words_of(path):
             continue
         modules = [it for it in modules if not text or indent(it) < indent(line)]
         made = re.match(r"(unfoldable )?(abbrev )?pub (abbrev )?(record |data )?([^\s:({]+)", text)
-        if not lead and not words and re.match("(unfoldable )?(pub )?use ", text):
+        if not lead and not definitions and re.match("(unfoldable )?(pub )?use ", text):
             lead = " ".join(note)
         elif text.startswith("module "):
             modules.append(line)
@@ -155,6 +155,6 @@ def words_of(path):
                 of_type = [line, *takewhile(lambda it: indent(it) > indent(line), block[1:])]
                 block = block if any(made.groups()[:3]) and len(block) - len(of_type) <= SHORT else of_type
             code = [re.sub(r"^( *)(?:unfoldable |abbrev )?pub (?:abbrev )?", r"\1", it) for it in [*modules, *block]]
-            words.append(Word(made.group(5), " ".join(note), fields, code))
+            definitions.append(Definition(made.group(5), " ".join(note), fields, code))
         note = []
-    return lead, words
+    return lead, definitions

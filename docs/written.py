@@ -3,7 +3,7 @@ import re
 from collections import Counter
 from functools import cache
 
-from sources import NAME, SHORT, TOP, clauses_of, copied, indent, named, parsed, public_calls, tracked, word_files, words_of
+from sources import NAME, SHORT, TOP, clauses_of, copied, definition_files, definitions_of, indent, named, parsed, public_calls, tracked
 
 REFERENCE = "docs/reference"
 
@@ -18,13 +18,13 @@ def anchors(headings):
 
 
 @cache
-def places_of_words():
-    """Where the pages of words explain each word, by its crate, its file and its name."""
+def places_of_definitions():
+    """Where the pages of definitions explain each definition, by its crate, its file and its name."""
     places = {}
     for crate in copied():
-        entries = [entry for path in word_files(crate) if words_of(path)[1] for entry in [(path.stem, ""), *((path.stem, it.name) for it in words_of(path)[1])]]
+        entries = [entry for path in definition_files(crate) if definitions_of(path)[1] for entry in [(path.stem, ""), *((path.stem, it.name) for it in definitions_of(path)[1])]]
         for (file, name), anchor in zip(entries, anchors(name or file for file, name in entries)):
-            places[crate, file, name] = f"../{crate}/words.md#{anchor}"
+            places[crate, file, name] = f"../{crate}/definitions.md#{anchor}"
     return places
 
 
@@ -41,49 +41,49 @@ def of_crate(crate):
 
 
 @cache
-def words_at(path):
-    """Where the pages explain the words that a file imports and, in specs/, has, by the names that they have there."""
+def definitions_at(path):
+    """Where the pages explain the definitions that a file imports and, in specs/, has, by the names that they have there."""
     found = {}
     for crate, file, names in re.findall(r"use Rattle\.(\w+)\.specs\.(\w+)\.\{([^}]*)\}", path.read_text()):
-        for word, name in re.findall(r"(\w+)(?: as (\w+))?", names):
-            found[name or word] = (crate, file, word)
+        for it, name in re.findall(r"(\w+)(?: as (\w+))?", names):
+            found[name or it] = (crate, file, it)
     for crate, file, name in re.findall(r"use Rattle\.(\w+)\.specs\.(\w+) as (\w+)", path.read_text()):
-        found.update({f"{name}.{word}": (crate, file, word) for of, where, word in places_of_words() if (of, where) == (crate, file)})
+        found.update({f"{name}.{it}": (crate, file, it) for of, where, it in places_of_definitions() if (of, where) == (crate, file)})
     if path.suffix == ".antt":
-        found.update({it.name: (path.parts[-3], path.stem, it.name) for it in words_of(path)[1]})
-    return {name: places_of_words()[word] for name, word in found.items() if word in places_of_words()}
+        found.update({it.name: (path.parts[-3], path.stem, it.name) for it in definitions_of(path)[1]})
+    return {name: places_of_definitions()[it] for name, it in found.items() if it in places_of_definitions()}
 
 
 def cited(path, text):
-    """Links to the words that a text of a file cites; what follows a dot is a field, unless a file goes by the name before it."""
+    """Links to the definitions that a text of a file cites; what follows a dot is a field, unless a file goes by the name before it."""
     names = dict.fromkeys(name for names in re.findall(r"(?<![\w.])(([A-Za-z_]\w*)(?:\.[A-Za-z_]\w*)?)", text) for name in names)
-    return [link(f"`{name}`", words_at(path)[name]) for name in names if name in words_at(path)]
+    return [link(f"`{name}`", definitions_at(path)[name]) for name in names if name in definitions_at(path)]
 
 
-def sentence(word):
-    """The comment of a word as a sentence. A variable of the code that it begins with stays as it is."""
-    first = word.note.split(" ")[0]
-    variable = first not in ("a", "the") and (len(first) == 1 or len(first) <= 3 and first in NAME.findall(" ".join(word.code)))
-    return re.sub(r"(?<=[^.])$", ".", word.note if variable else word.note[:1].upper() + word.note[1:])
+def sentence(it):
+    """The comment of a definition as a sentence. A variable of the code that it begins with stays as it is."""
+    first = it.note.split(" ")[0]
+    variable = first not in ("a", "the") and (len(first) == 1 or len(first) <= 3 and first in NAME.findall(" ".join(it.code)))
+    return re.sub(r"(?<=[^.])$", ".", it.note if variable else it.note[:1].upper() + it.note[1:])
 
 
-def words_page(crate):
-    out = [f"# The words of `{crate}`", "", f"{of_crate(crate)} What its contracts say, a heading for each file of `specs/`, and below it one for each word. {link('The guide', '../../GUIDE.md#how-to-read-a-contract')} says how a definition is read. A list is written from the front, and an index counts from 0. A loan has a name, which stands for what it ends as. Of a lemma, and of a definition of more than {SHORT} lines, the type alone is here."]
-    for path in word_files(crate):
-        lead, words = words_of(path)
-        if words:
+def definitions_page(crate):
+    out = [f"# The definitions of `{crate}`", "", f"{of_crate(crate)} What its contracts say, a heading for each file of `specs/`, and below it one for each definition. {link('The guide', '../../GUIDE.md#how-to-read-a-contract')} says how a definition is read. A list is written from the front, and an index counts from 0. The name of a loan means what it ends as. Of a lemma, and of a definition of more than {SHORT} lines, the type alone is here."]
+    for path in definition_files(crate):
+        lead, definitions = definitions_of(path)
+        if definitions:
             out += ["", f"## {path.stem}", "", f"{lead} {source(path)}"]
-        for word in words:
-            code = "\n".join(word.code)
-            out += ["", f"### `{word.name}`", "", sentence(word), "", "```antt", code, "```"]
-            # the name of a field may be that of a word, too
-            links = cited(path, re.sub(rf"^ *\w+ :|\b{word.name}\b", "", code, flags=re.M))
+        for it in definitions:
+            code = "\n".join(it.code)
+            out += ["", f"### `{it.name}`", "", sentence(it), "", "```antt", code, "```"]
+            # the name of a field may be that of a definition, too
+            links = cited(path, re.sub(rf"^ *\w+ :|\b{it.name}\b", "", code, flags=re.M))
             out += ["", " · ".join(links)] if links else []
     return out
 
 
 def call_entry(call, path):
-    """A heading with what the call does, its contract, and where the words of that are explained."""
+    """A heading with what the call does, its contract, and where the definitions that it cites are explained."""
     code = [f"{call.around} {{", *(f"    {line}" for line in call.head)] if call.around else call.head
     parts = [f"## `{call.name}`", call.note, "\n".join(["```rust", *code, "```"])]
     says = " ".join(says for _, says in clauses_of(call))
@@ -91,7 +91,7 @@ def call_entry(call, path):
 
 
 def type_pages(crate):
-    """The pages of a crate's types and of its functions: of each the name, where the type stands, its comment, and the lines."""
+    """The pages of a crate's types and of its functions: of each the name, where the type is, its comment, and the lines."""
     calls, notes, homes = {}, {}, {}
     files = sorted(tracked(f"crates/{crate}/src/*.rt"), key=lambda path: path.with_suffix("").parts)
     times = Counter(name for path in files for name in parsed(path)[0])
@@ -114,17 +114,17 @@ def type_pages(crate):
 
 def reference():
     """Each page, by its path."""
-    out = ["# The reference", "", "Written by `make pages` from the comments and the contracts of the sources: the public calls of the crates that a user copies, a page a type, and the words of their contracts. [The guide](../GUIDE.md#how-to-read-a-contract) says how one is read."]
+    out = ["# The reference", "", "Written by `make pages` from the comments and the contracts of the sources: the public calls of the crates that a user copies, a page a type, and the definitions in their contracts. [The guide](../GUIDE.md#how-to-read-a-contract) says how one is read."]
     found = {}
     for crate in copied():
         about = re.match(r"//! (.*?)\n(?!//!)", (TOP / f"crates/{crate}/src/lib.rt").read_text(), re.S).group(1).replace("\n//!", "")
         out += ["", f"## `{crate}`", "", about, "", "| Page | What it is about |", "|---|---|"]
-        for name, home, note, page in [*type_pages(crate), ("words", None, "What the words of its contracts mean.", words_page(crate))]:
+        for name, home, note, page in [*type_pages(crate), ("definitions", None, "What the names in its contracts mean.", definitions_page(crate))]:
             file = f"{crate}/{name.replace('::', '-')}.md" if page else f"../../{named(home)}"
             if page:
                 found[f"{REFERENCE}/{file}"] = page
             first = re.sub(r"[.:](\s.*)?$", ".", note, flags=re.S)
-            out.append(f"| {link(name if name in ('functions', 'words') else f'`{name}`', file)} | {first} |")
+            out.append(f"| {link(name if name in ('functions', 'definitions') else f'`{name}`', file)} | {first} |")
     found[f"{REFERENCE}/README.md"] = out
     found["docs/CASES.md"] = cases_page()
     return {name: "\n".join(lines) + "\n" for name, lines in found.items()}

@@ -1,7 +1,7 @@
 """Times the script program under hashes that an attacker may choose, beside random ones: nanoseconds of processor time a
 line.
 
-The own hash of a key is not keyed, so that whoever chooses the keys chooses where they stand. A script brings its hashes
+The own hash of a key is not keyed, so whoever chooses the keys chooses their slots. A script supplies its hashes
 itself. Each figure is the least of some runs, less that of a run without the lines that it is about.
 
 python3 hostile/attack.py PROGRAM
